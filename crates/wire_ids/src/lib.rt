@@ -1,0 +1,26 @@
+//! Identifiers, keys and addresses of LoRaWAN, and the words that all crates share.
+#![tactic(auto)]
+
+mod address;
+mod eui;
+mod faults;
+mod keys;
+mod memory;
+mod moment;
+mod net_id;
+mod nonce;
+mod party;
+mod radio;
+mod text;
+
+pub use address::{DevAddr, address_of, net_matches};
+pub use eui::Eui;
+pub use faults::{FrameFault, IdFault};
+pub use keys::{RootKeys, Seed, SessionKeys};
+pub use memory::Memory;
+pub use moment::Moment;
+pub use net_id::NetId;
+pub use nonce::Nonce24;
+pub use party::{PeerId, Sender};
+pub use radio::Radio;
+pub use text::Text;

@@ -1,12 +1,49 @@
 ghost use Rattle.std.specs.Prelude.{◌≡◌, ◌<◌, ◌≤◌, ◌+◌, ◌*◌, ◌%◌, ◌^◌, ◌↔◌, IsTrue, option_map};
 ghost use Rattle.wire_ids.specs.Addresses.{Matches, address_of, base_of, nwk_bits, free_bits, prefix, room_of, type_of};
 ghost use Rattle.wire_ids.specs.declared.address.DevAddr as dev_addr;
+ghost use Rattle.std.specs.Int.{w32, from_le_bytes, to_le_bytes};
+ghost use Rattle.wire_ids.specs.Digits.{addr_digits, read_addr};
 
-use crate::NetId;
+use crate::digits::id_bytes;
+use crate::{IdFault, NetId};
 
 /// A device's address in a network.
 #[derive(Clone, Copy, Debug, PartialEq, Eq)]
 pub struct DevAddr(pub u32);
+
+impl DevAddr {
+    /// Reads 8 hexadecimal digits of either case, the highest first, behind an optional `0x` or
+    /// `0X`. Another number of bytes there is `BadLength`; else the first that is no digit is
+    /// `BadDigit`.
+    pub fn from_hex(text: &[u8]) -> Result<DevAddr, IdFault>
+        ensures { result ≡ read_addr text.now }
+    {
+        Ok(DevAddr(u32::from_be_bytes(id_bytes(text)?)))
+    }
+
+    /// Its 8 digits in lower case, the highest first.
+    pub fn to_hex(self) -> [u8; 8]
+        ensures { result ≡ addr_digits self }
+    {
+        let mut digits = [0; 8];
+        let _ = hex::encode_to_slice(self.0.to_be_bytes(), &mut digits);
+        digits
+    }
+
+    /// The address of these bytes of a frame, the lowest first.
+    pub fn from_wire(bytes: [u8; 4]) -> DevAddr
+        ensures { result.0 ≡ from_le_bytes w32 bytes }
+    {
+        DevAddr(u32::from_le_bytes(bytes))
+    }
+
+    /// Its bytes in a frame, the lowest first.
+    pub fn to_wire(self) -> [u8; 4]
+        ensures { result ≡ to_le_bytes w32 self.0 }
+    {
+        self.0.to_le_bytes()
+    }
+}
 
 // What an address of a network is made of.
 #[derive(Clone, Copy)]

@@ -2,16 +2,21 @@
 #![tactic(auto)]
 
 mod address;
+mod digits;
 mod eui;
 mod faults;
 mod keys;
+pub mod laws;
 mod memory;
 mod moment;
 mod net_id;
 mod nonce;
 mod party;
 mod radio;
+#[cfg(test)]
+mod tests;
 mod text;
+mod three;
 
 pub use address::{DevAddr, address_of, net_matches};
 pub use eui::Eui;

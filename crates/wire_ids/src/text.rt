@@ -3,7 +3,7 @@ use std::alloc::Global;
 use std::marker::Model;
 
 /// Bytes in a row. Contracts see them as a list.
-#[derive(Drop)]
+#[derive(Debug, Drop)]
 pub struct Text {
     bytes: Vec<u8>,
 }
@@ -16,7 +16,7 @@ impl Model for Text {
     ghost view = { λ t. t.bytes.items };
 }
 
-ghost use Rattle.std.specs.Prelude.{◌≡◌, length, IfOk};
+ghost use Rattle.std.specs.Prelude.{◌≡◌, ◌==◌, length, IfOk};
 
 impl Text {
     /// The text of these bytes. Takes no memory.
@@ -47,6 +47,13 @@ impl Text {
         ensures { result ≡ length self.now }
     {
         self.bytes.len()
+    }
+
+    /// Whether it has no bytes.
+    pub fn is_empty(&self) -> bool
+        ensures { result ≡ (length self.now == 0) }
+    {
+        self.bytes.is_empty()
     }
 
     /// Its bytes, given back without a copy.

@@ -1,0 +1,36 @@
+//! Laws of the definitions, that speak of all identifiers.
+
+ghost use Rattle.std.specs.Prelude.{◌≡◌, ◌≢◌, ◌<◌, ◌*◌, ◌^◌, ◌↔◌, ℕ, List, length, Ok, Err};
+ghost use Rattle.std.specs.Int.{w32, w64};
+ghost use Rattle.wire_ids.specs.Addresses.{HasSameIdentifier, SharesAnAddress};
+ghost use Rattle.wire_ids.specs.Digits.{IsFirstBad, addr_digits, eui_digits, id_bytes, net_digits, read_addr, read_eui, read_net, without_prefix};
+ghost use Rattle.wire_ids.specs.Numbers.{wire_bytes, wire_number};
+ghost use Rattle.wire_ids.specs.declared.address.DevAddr.{DevAddr};
+ghost use Rattle.wire_ids.specs.declared.eui.Eui.{Eui};
+ghost use Rattle.wire_ids.specs.declared.faults.IdFault.TheVariants.{BadDigit, BadLength};
+
+/// The digits of an identifier are read as that identifier.
+pub fn digits_are_read()
+    ensures eui { (eui : Eui) → eui.0 < 2 ^ 64 → read_eui (eui_digits eui) ≡ Ok eui }
+    ensures addr { (addr : DevAddr) → addr.0 < 2 ^ 32 → read_addr (addr_digits addr) ≡ Ok addr }
+    ensures net { (net : ℕ) → net < 2 ^ 24 → read_net (net_digits net) ≡ Ok net }
+{}
+
+/// The bytes of a number of 24 bits in a frame are read as that number.
+pub fn wire_bytes_are_read()
+    ensures { (n : ℕ) → n < 2 ^ 24 → wire_number (wire_bytes n) ≡ n }
+{}
+
+/// A text is refused for the number of its digits exactly where it is another one, and otherwise for
+/// its first byte that is no digit.
+pub fn refusals_of_digits()
+    ensures length { (n got : ℕ) (text : List ℕ) → (id_bytes n text ≡ Err (BadLength got))
+        ↔ ((length (without_prefix text) ≡ got) × (got ≢ 2 * n)) }
+    ensures digit { (n place : ℕ) (text : List ℕ) → id_bytes n text ≡ Err (BadDigit place)
+        → IsFirstBad (without_prefix text) place }
+{}
+
+/// Two networks share an address exactly where their types and their NwkIDs are equal (TS002).
+pub fn networks_of_one_address()
+    ensures { (a b : ℕ) → a < 2 ^ 24 → b < 2 ^ 24 → SharesAnAddress a b ↔ HasSameIdentifier a b }
+{}

@@ -6,12 +6,25 @@ use wire_ids::{Eui, Seed, SessionKeys};
 
 // The block of a key that the DevEUI names.
 #[tactic(auto, unfolding(crate::specs::Keys::device_block))]
-fn device_block(letter: u8, dev: Eui) -> [u8; 16]
+pub(crate) fn device_block(letter: u8, dev: Eui) -> [u8; 16]
     ensures { result ≡ device_block letter dev.0 }
 {
     let d = dev.0.to_le_bytes();
     [
         letter, d[0], d[1], d[2], d[3], d[4], d[5], d[6], d[7], 0, 0, 0, 0, 0, 0, 0,
+    ]
+}
+
+// The block of a session key.
+#[tactic(auto, unfolding(crate::specs::Keys::session_block))]
+pub(crate) fn session_block(letter: u8, seed: &Seed) -> [u8; 16]
+    ensures { result ≡ session_block letter seed.now }
+{
+    let n = seed.nonce.get().to_le_bytes();
+    let e = seed.join_eui.0.to_le_bytes();
+    let c = seed.counter.to_le_bytes();
+    [
+        letter, n[0], n[1], n[2], e[0], e[1], e[2], e[3], e[4], e[5], e[6], e[7], c[0], c[1], 0, 0,
     ]
 }
 
@@ -21,4 +34,33 @@ pub fn js_int_of(nwk: &[u8; 16], dev: Eui) -> [u8; 16]
     ensures { result ≡ js_int_key nwk.now dev.0 }
 {
     RoundKeys::new(nwk).encrypt(device_block(6, dev))
+}
+
+/// JSEncKey of a device under its NwkKey (LoRaWAN 1.1, 6.1.1.4).
+#[tactic(auto, unfolding(crate::specs::Keys::js_enc_key))]
+pub fn js_enc_of(nwk: &[u8; 16], dev: Eui) -> [u8; 16]
+    ensures { result ≡ js_enc_key nwk.now dev.0 }
+{
+    RoundKeys::new(nwk).encrypt(device_block(5, dev))
+}
+
+/// FNwkSIntKey, SNwkSIntKey and NwkSEncKey of an activation under the NwkKey (LoRaWAN 1.1, 6.2.3).
+#[tactic(auto, unfolding(crate::specs::Keys::network_keys))]
+pub fn session_keys_of(nwk: &[u8; 16], seed: &Seed) -> SessionKeys
+    ensures { result ≡ network_keys nwk.now seed.now }
+{
+    let keys = RoundKeys::new(nwk);
+    SessionKeys {
+        f: keys.encrypt(session_block(1, seed)),
+        s: keys.encrypt(session_block(3, seed)),
+        e: keys.encrypt(session_block(4, seed)),
+    }
+}
+
+/// AppSKey of an activation under the AppKey (LoRaWAN 1.1, 6.2.3).
+#[tactic(auto, unfolding(crate::specs::Keys::app_session_key))]
+pub fn app_s_key_of(app: &[u8; 16], seed: &Seed) -> [u8; 16]
+    ensures { result ≡ app_session_key app.now seed.now }
+{
+    RoundKeys::new(app).encrypt(session_block(2, seed))
 }

@@ -12,6 +12,7 @@ pub enum FrameFault {
 pub enum IdFault {
     /// The text has another number of bytes, counted behind its prefix.
     BadLength { got: usize },
-    /// The byte at this place, counted from 0 behind the prefix, is the first that is no hexadecimal digit.
+    /// The byte at this place, counted from 0 behind the prefix, is the first that is no
+    /// hexadecimal digit.
     BadDigit { place: usize },
 }

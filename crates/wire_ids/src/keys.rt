@@ -17,8 +17,8 @@ pub struct SessionKeys {
 }
 
 /// What the session keys of one activation are derived from, beside the root keys (LoRaWAN 1.1,
-/// 6.2.5): its JoinNonce, the JoinEUI, and the counter of its request, which is the DevNonce of a join
-/// and the RJcount of a rejoin.
+/// 6.2.5): its JoinNonce, the JoinEUI, and the counter of its request, which is the DevNonce of a
+/// join and the RJcount of a rejoin.
 #[derive(Clone, Copy, Debug, PartialEq, Eq)]
 pub struct Seed {
     pub nonce: Nonce24,

@@ -21,8 +21,8 @@ pub fn wire_bytes_are_read()
     ensures { (n : ℕ) → n < 2 ^ 24 → wire_number (wire_bytes n) ≡ n }
 {}
 
-/// A text is refused for the number of its digits exactly where it is another one, and otherwise for
-/// its first byte that is no digit.
+/// A text is refused for the number of its digits exactly where it is another one, and otherwise
+/// for its first byte that is no digit.
 pub fn refusals_of_digits()
     ensures length { (n got : ℕ) (text : List ℕ) → (id_bytes n text ≡ Err (BadLength got))
         ↔ ((length (without_prefix text) ≡ got) × (got ≢ 2 * n)) }

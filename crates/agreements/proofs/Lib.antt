@@ -1,0 +1,5 @@
+pub mod Places
+pub mod Indexes
+pub mod Listed
+pub mod Documents
+pub mod Belonging

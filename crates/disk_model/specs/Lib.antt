@@ -1,0 +1,10 @@
+pub mod Asking
+pub mod CallsInMemory
+pub mod Closed
+pub mod Connections
+pub mod Disk
+pub mod Fixed
+pub mod Memory
+pub mod Moments
+pub mod Script
+pub mod Written

@@ -1,0 +1,26 @@
+//! What the desk is handed from outside: sources and sinks of bytes, disks, links to peers, calls
+//! of clients and clocks, each with a count of its faults, and forms of them that lie in memory.
+#![tactic(auto)]
+
+mod calls;
+mod clock;
+mod disk;
+mod faults;
+mod link;
+mod memory;
+mod ran;
+mod steps;
+mod stream;
+#[cfg(test)]
+mod tests;
+mod whole;
+
+pub use calls::{Calls, MemoryCalls};
+pub use clock::{Clock, ClosedClock, FixedClock};
+pub use disk::{ClosedDisk, Disk};
+pub use link::{Asked, ClosedLink, Link, LinkFault, ScriptLink};
+pub use memory::{MemorySink, MemorySource};
+pub use ran::{Held, Ran};
+pub use steps::Steps;
+pub use stream::{Failed, Sink, Source};
+pub use whole::write_whole;

@@ -1,0 +1,12 @@
+//! Who is entitled to which session keys: roles, key sets and envelopes.
+#![tactic(auto)]
+
+mod envelopes;
+mod keys;
+mod roles;
+#[cfg(test)]
+mod tests;
+
+pub use envelopes::envelope;
+pub use keys::{KeySet, keys_for};
+pub use roles::{AnswerKind, Facts, Role, role_of};

@@ -1,0 +1,5 @@
+pub mod Forms
+pub mod Blocks
+pub mod AcceptFacts
+pub mod Bytes
+pub mod Opening

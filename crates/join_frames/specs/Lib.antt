@@ -1,0 +1,4 @@
+pub mod Mics
+pub mod JoinForms
+pub mod JoinReads
+pub mod Accepts

@@ -1,0 +1,104 @@
+ghost use Rattle.std.specs.Prelude.{◌≡◌, ◌≤◌, ◌+◌, length, take, drop, IfOk, IfErr};
+ghost use Rattle.std.specs.Int.{w16, w64, to_le_bytes};
+ghost use Rattle.key_vault.specs.Keys.{le24};
+ghost use Rattle.join_frames.specs.JoinForms.{JoinForm, JoinFault};
+ghost use Rattle.join_frames.specs.JoinReads.{u16_at, eui_at, net_at, join_up_of};
+ghost use Rattle.join_frames.specs.declared.join_up.JoinUp.{JoinUp};
+
+use wire_ids::{Eui, FrameFault, NetId};
+
+/// A join-request or a rejoin-request of a device (LoRaWAN 1.1, 6.2.2 and 6.2.4).
+#[derive(Clone, Copy, Debug, PartialEq, Eq)]
+pub enum JoinUp {
+    Join {
+        join_eui: Eui,
+        dev_eui: Eui,
+        nonce: u16,
+        mic: [u8; 4],
+    },
+    /// A rejoin-request of type 0 or 2, which `kind` tells.
+    Rejoin02 {
+        kind: u8,
+        net: NetId,
+        dev_eui: Eui,
+        count: u16,
+        mic: [u8; 4],
+    },
+    Rejoin1 {
+        join_eui: Eui,
+        dev_eui: Eui,
+        count: u16,
+        mic: [u8; 4],
+    },
+}
+
+fn u16_at(frame: &[u8], at: usize) -> u16
+    requires { at + 2 ≤ length frame.now }
+    ensures bytes { to_le_bytes w16 result ≡ take 2 (drop at frame.now) }
+    ensures value { result ≡ u16_at frame.now at }
+{
+    let mut bytes = [0; 2];
+    bytes.copy_from_slice(&frame[at..at + 2]);
+    u16::from_le_bytes(bytes)
+}
+
+fn eui_at(frame: &[u8], at: usize) -> Eui
+    requires { at + 8 ≤ length frame.now }
+    ensures bytes { to_le_bytes w64 result.0 ≡ take 8 (drop at frame.now) }
+    ensures value { result ≡ eui_at frame.now at }
+{
+    let mut bytes = [0; 8];
+    bytes.copy_from_slice(&frame[at..at + 8]);
+    Eui(u64::from_le_bytes(bytes))
+}
+
+fn mic_at(frame: &[u8], at: usize) -> [u8; 4]
+    requires { at + 4 ≤ length frame.now }
+    ensures { result ≡ take 4 (drop at frame.now) }
+{
+    let mut mic = [0; 4];
+    mic.copy_from_slice(&frame[at..at + 4]);
+    mic
+}
+
+fn net_at(frame: &[u8], at: usize) -> NetId
+    requires { at + 3 ≤ length frame.now }
+    ensures bytes { le24 result ≡ take 3 (drop at frame.now) }
+    ensures value { result ≡ net_at frame.now at }
+{
+    NetId::from_be_bytes([frame[at + 2], frame[at + 1], frame[at]])
+}
+
+/// The fields of a join-request of 23 bytes or of a rejoin-request of 19 or 24 bytes. `Size` where
+/// the frame has another length, and `Form` where its first bytes are those of no frame of its length.
+#[tactic(auto, unfolding(crate::specs::JoinReads::join_up_of))]
+pub fn read_up(frame: &[u8]) -> Result<JoinUp, FrameFault>
+    ensures form { IfOk result (λ v. JoinForm frame.now v) }
+    ensures only { (v : JoinUp) → JoinForm frame.now v → result ≡ Ok v }
+    ensures value { result ≡ join_up_of frame.now }
+    ensures fault { IfErr result (λ e. JoinFault frame.now e) }
+{
+    match frame.len() {
+        23 if frame[0] == 0 => Ok(JoinUp::Join {
+            join_eui: eui_at(frame, 1),
+            dev_eui: eui_at(frame, 9),
+            nonce: u16_at(frame, 17),
+            mic: mic_at(frame, 19),
+        }),
+        19 if frame[0] == 0xc0 && (frame[1] == 0 || frame[1] == 2) => Ok(JoinUp::Rejoin02 {
+            kind: frame[1],
+            net: net_at(frame, 2),
+            dev_eui: eui_at(frame, 5),
+            count: u16_at(frame, 13),
+            mic: mic_at(frame, 15),
+        }),
+        24 if frame[0] == 0xc0 && frame[1] == 1 => Ok(JoinUp::Rejoin1 {
+            join_eui: eui_at(frame, 2),
+            dev_eui: eui_at(frame, 10),
+            count: u16_at(frame, 18),
+            mic: mic_at(frame, 20),
+        }),
+        19 | 23 | 24 => Err(FrameFault::Form),
+        got => Err(FrameFault::Size { got }),
+    }
+}

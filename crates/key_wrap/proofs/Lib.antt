@@ -1,0 +1,4 @@
+pub mod Bytes
+pub mod ExampleSteps
+pub mod Steps
+pub mod Unwinding

@@ -1,0 +1,9 @@
+use Rattle.std.proofs.Common.{rules, replicate, refl, ◌∙◌, append_assoc}
+use Rattle.key_wrap.proofs.Bytes.{put_end}
+use Rattle.key_wrap.proofs.registers.Registers.text.Goals as goal
+
+pub returns : goal.returns
+returns c =
+    put_end c.joined.result (replicate 8 0) c.args.self.r2 c.copy_from_slice.new.self c.copy_from_slice-2.new.self 16 8 (search rules) refl
+    c.copy_from_slice.ensures.after c.copy_from_slice-2.ensures.after
+    ∙ rw c.joined.ensures (append_assoc c.args.self.a c.args.self.r1 c.args.self.r2)

@@ -1,0 +1,4 @@
+pub mod Lines
+pub mod Ahead
+pub mod Hearing
+pub mod Held

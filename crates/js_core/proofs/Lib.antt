@@ -1,0 +1,4 @@
+pub mod Sets
+pub mod Agreeing
+pub mod Long
+pub mod JoinFrames

@@ -1,0 +1,33 @@
+-- What the join server keeps of its devices, and what a join changes in it.
+use Rattle.std.specs.Prelude.{◌≡◌, ℕ, List, [], ◌∷◌, length, take, slice_get, slice_set, Option, Some, None}
+use Rattle.wire_ids.specs.declared.keys.Seed.{Seed}
+use Rattle.agreements.specs.Walk.{Config}
+use Rattle.js_core.specs.declared.kept.KeptDevice.{KeptDevice}
+
+-- one kept device for each device row, in table order
+pub record Machine : Type 0 where
+  pub devices : List KeptDevice
+
+-- the state of these tables
+abbrev pub IsOf : Config → Machine → Type 0
+IsOf c m = length m.devices ≡ length c.devices
+
+-- nothing was accepted of the device; JoinNonces begin above 0
+abbrev pub new_device : KeptDevice
+new_device = record { last_dev_nonce = None; last_join_nonce = 0; seeds = record { items = [] } }
+
+-- a join was accepted: its DevNonce and JoinNonce are the last ones, and of its seed and the ones before it the four newest are kept
+unfoldable pub joined : Seed → KeptDevice → KeptDevice
+joined seed d = record { last_dev_nonce = Some seed.counter; last_join_nonce = seed.nonce; seeds = record { items = take 4 (record { seed = seed } ∷ d.seeds.items) } }
+
+abbrev pub with_changed : {X : Type 0} → List X → ℕ → (X → X) → Option X → List X
+with_changed xs i f None = xs
+with_changed xs i f (Some x) = slice_set xs i (f x)
+
+-- the list with element i changed, where there is one
+abbrev pub changed : {X : Type 0} → ℕ → (X → X) → List X → List X
+changed i f xs = with_changed xs i f (slice_get xs i)
+
+-- a join of the device in this row was accepted
+unfoldable pub with_join : ℕ → Seed → Machine → Machine
+with_join device seed m = record m { devices = changed device (joined seed) m.devices }

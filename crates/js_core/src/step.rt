@@ -1,0 +1,75 @@
+//! The machine's step.
+
+ghost use Rattle.std.specs.Prelude.{◌≡◌, ◌<◌, length, map, IfOk, OnErr};
+ghost use Rattle.agreements.specs.LookUps.{keys_of};
+ghost use Rattle.backend_json.specs.Messages.{message_of};
+ghost use Rattle.js_core.specs.Machine.{IsOf};
+ghost use Rattle.js_core.specs.Replies.{bad_answer};
+ghost use Rattle.js_core.specs.Step.{answer_to, decided, state_after, IsWithin};
+
+use crate::decide::{decide, refused};
+use crate::{Decision, State};
+use agreements::Tables;
+use backend_json::{Answer, Bad, Refusal, answer_text, read_message};
+use key_vault::{BlockFn, Vault};
+use std::alloc::Global;
+use wire_ids::{Memory, Text};
+
+// The answer to a body that is no readable message.
+fn bad_answer(bad: Bad) -> Answer
+    ensures { result ≡ bad_answer bad }
+{
+    match bad {
+        Bad::NotJson | Bad::TooLong | Bad::Memory => refused(None, Refusal::Message),
+        Bad::Member { name: _, head } => refused(head, Refusal::Message),
+        Bad::Version { head } => refused(Some(head), Refusal::Version),
+    }
+}
+
+// What a line comes to.
+#[tactic(auto, unfolding(crate::specs::Step::decided))]
+fn decided<E: BlockFn, D: BlockFn>(
+    alloc: Global,
+    tables: &Tables,
+    vault: &Vault<E, D>,
+    state: &State,
+    line: &[u8],
+) -> Result<Decision, Memory>
+    requires keys { vault.now ≡ map keys_of tables.now.devices }
+    requires rows { IsOf tables.now state.now }
+    ensures value { IfOk result (λ d. d ≡ decided tables.now vault.now state.now line.now) }
+    ensures within { IfOk result (λ d. IsWithin (length state.now.devices) d) }
+{
+    match read_message(alloc, line) {
+        Ok(message) => decide(alloc, tables, vault, state, message),
+        Err(Bad::Memory) => Err(Memory),
+        Err(bad) => Ok(Decision::Reply(bad_answer(bad))),
+    }
+}
+
+/// Answers a line, which is one request, and keeps what it changes. After an error the state is as
+/// it was.
+#[tactic(auto, unfolding(crate::specs::Step::answer_to, crate::specs::Step::state_after))]
+pub fn answer<E: BlockFn, D: BlockFn>(
+    alloc: Global,
+    tables: &Tables,
+    vault: &Vault<E, D>,
+    state: &mut State,
+    line: &[u8],
+) -> Result<Text, Memory>
+    requires keys { vault.now ≡ map keys_of tables.now.devices }
+    requires rows { IsOf tables.now state.old }
+    ensures text { IfOk result (λ t. t ≡ answer_to tables.now vault.now state.old line.now) }
+    ensures state { IfOk result (λ _. state.new ≡ state_after tables.now vault.now state.old line.now) }
+    ensures memory { OnErr result (state.new ≡ state.old) }
+    ensures rows { IsOf tables.now state.new }
+{
+    match decided(alloc, tables, vault, state, line)? {
+        Decision::Reply(answer) => answer_text(alloc, &answer),
+        Decision::Accept(answer, join) => {
+            let text = answer_text(alloc, &answer)?;
+            state.join(join.device, join.seed);
+            Ok(text)
+        }
+    }
+}

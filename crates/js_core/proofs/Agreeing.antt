@@ -1,5 +1,5 @@
 -- Each answer has the keys to which its receiver is entitled.
-use Rattle.std.proofs.Common.{◌≡◌, ℕ, ◌<◌, ◌==◌, Bool, true, false, cond, not, List, [], ◌∷◌, All, Option, Some, None, is_some, is_none, Result, Ok, Err, slice_get, refl, ap, sym, subst, ◌∙◌, eqb, eqb-true}
+use Rattle.std.proofs.Common.{◌≡◌, ℕ, ◌==◌, Bool, true, false, cond, not, List, All, Option, Some, None, is_some, Result, Ok, Err, slice_get, refl, sym, subst, ◌∙◌, eqb-true}
 use Rattle.std.proofs.lemmas.List.Elements.{All-get_or}
 use Rattle.std.proofs.lemmas.Option.{get_or_from_slice_get, slice_get_within}
 use Rattle.agreements.proofs.Belonging.{is_some-find}
@@ -32,7 +32,6 @@ use Rattle.js_core.specs.declared.frames.JoinFrame.{JoinFrame}
 use Rattle.js_core.specs.declared.kept.KeptDevice.{KeptDevice}
 use Rattle.js_core.specs.declared.kept.KeptSeed.{KeptSeed}
 use Rattle.js_core.specs.Agreement.{Agrees, AnswersAgree, ReplyAgrees, entitled_fields}
-use Rattle.js_core.specs.Frames.{join_frame_of}
 use Rattle.js_core.specs.Machine.{Machine}
 use Rattle.js_core.specs.Parties.{application_named, is_known, network_of}
 use Rattle.js_core.specs.Replies.{accepted, answer_keys, app_s_key_answer, app_s_key_success, app_s_key_success_at, app_s_key_success_with, bad_answer, by_cause, decision_of, decision_on, entries_for, for_application, for_network, join_answer, join_success, join_success_at, next_seed, refused, seed_with}

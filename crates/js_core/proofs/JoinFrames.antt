@@ -1,9 +1,9 @@
 -- The fields of a join-request are those of its join form.
-use Rattle.std.proofs.Common.{◌≡◌, ℕ, ◌<◌, ◌^◌, ◌≤◌, ◌+◌, ◌==◌, Bool, true, false, List, ◌++◌, length, take, drop, get_or, slice_index_or, Option, Some, None, Result, Ok, Err, refl, ap, sym, ◌∙◌, subst, arith, inl, inr, ◌⊎◌, length-drop, slice_index, eqb-true}
+use Rattle.std.proofs.Common.{◌≡◌, ℕ, ◌<◌, ◌^◌, ◌≤◌, ◌+◌, ◌==◌, false, List, ◌++◌, length, take, drop, get_or, slice_index_or, Option, Some, None, refl, sym, subst, arith, inl, inr, length-drop, slice_index, eqb-true}
 use Rattle.std.proofs.lemmas.Bool.{cases_Bool, cases_lt}
 use Rattle.std.proofs.lemmas.List.{length-take, get_or-take, get_or-drop, get_or_past}
 use Rattle.std.proofs.lemmas.Nat.{from_le_bytes-to_le_bytes_2, from_le_bytes-to_le_bytes_8, le_bytes_2, le_bytes_8}
-use Rattle.std.specs.Int.{w16, w64, to_le_bytes, from_le_bytes}
+use Rattle.std.specs.Int.{w16, w64, from_le_bytes}
 use Rattle.wire_ids.specs.declared.eui.Eui.{Eui}
 use Rattle.wire_ids.specs.declared.faults.FrameFault.{FrameFault}
 use Rattle.wire_ids.specs.declared.faults.FrameFault.TheVariants.{Size, Form}

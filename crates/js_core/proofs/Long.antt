@@ -1,13 +1,9 @@
 -- A line above the limit is answered as its first bytes are.
-use Rattle.std.proofs.Common.{◌≡◌, ℕ, ◌<◌, List, length, take, Result, Err, ap, ◌∙◌, sym, arith, lt-ltb, refl}
+use Rattle.std.proofs.Common.{◌≡◌, ℕ, ◌<◌, List, length, take, Err, ◌∙◌, sym, arith, lt-ltb, refl}
 use Rattle.std.proofs.lemmas.List.{length-take}
 use Rattle.backend_json.specs.Messages.{message_of}
 use Rattle.backend_json.specs.declared.message.Bad.TheVariants as bad
-use Rattle.wire_ids.specs.declared.keys.RootKeys.{RootKeys}
-use Rattle.agreements.specs.Walk.{Config}
-use Rattle.js_core.specs.Machine.{Machine}
-use Rattle.js_core.specs.Replies.{decision_of}
-use Rattle.js_core.specs.Step.{TooLongAlike, answer_to, answer_in, after, decided, state_after}
+use Rattle.js_core.specs.Step.{TooLongAlike, answer_to, decided, state_after}
 
 long : (line : List ℕ) → 8192 < length line → message_of line ≡ Err bad.TooLong
 unfolding message_of

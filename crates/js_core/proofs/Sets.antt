@@ -1,7 +1,7 @@
 -- The entries of a set of keys are those that it has.
 use Rattle.std.proofs.Common.{◌≡◌, Bool, true, false, refl}
 use Rattle.std.specs.List.{list_any}
-use Rattle.entitlement.specs.Keys.{Entry, entries_of}
+use Rattle.entitlement.specs.Keys.{entries_of}
 use Rattle.entitlement.specs.declared.keys.KeySet.{KeySet}
 use Rattle.js_core.specs.Replies.{is_app_key, is_e, is_f, is_s}
 

@@ -1,5 +1,5 @@
 -- The keys of an answer are those that the entitlement table gives its receiver, each wrapped under the KEK of its own label.
-use Rattle.std.specs.Prelude.{◌≡◌, ℕ, List, [], map, slice_get, find, All, Option, Some, None, codes}
+use Rattle.std.specs.Prelude.{◌≡◌, ℕ, List, [], map, slice_get, All, Option, Some, None, codes}
 use Rattle.wire_ids.specs.declared.keys.RootKeys.{RootKeys}
 use Rattle.wire_ids.specs.declared.keys.Seed.{Seed}
 use Rattle.key_vault.specs.Keys.{app_session_key, network_keys}

@@ -1,11 +1,10 @@
 -- What a message is answered, and what it changes.
-use Rattle.std.specs.Prelude.{ℕ, ◌+◌, ◌==◌, List, find, Option, Some, None, option_map, Bool, true, false, if◌then◌else◌, Result, Ok, Err}
+use Rattle.std.specs.Prelude.{ℕ, ◌+◌, List, find, Option, Some, None, option_map, Bool, true, false, if◌then◌else◌, Result, Ok, Err}
 use Rattle.std.specs.List.{list_any}
 use Rattle.wire_ids.specs.Rules.{first_rule}
 use Rattle.wire_ids.specs.declared.eui.Eui.{Eui}
 use Rattle.wire_ids.specs.declared.keys.RootKeys.{RootKeys}
 use Rattle.wire_ids.specs.declared.keys.Seed.{Seed}
-use Rattle.wire_ids.specs.declared.keys.SessionKeys.{SessionKeys}
 use Rattle.key_wrap.specs.Wrap.{wrapped_key}
 use Rattle.key_vault.specs.Keys.{app_session_key, network_keys}
 use Rattle.key_vault.specs.Table.{app_at, nwk_at}
@@ -33,10 +32,9 @@ use Rattle.backend_json.specs.declared.request.JoinRequest.{JoinRequest}
 use Rattle.entitlement.specs.declared.roles.AnswerKind.{AnswerKind}
 use Rattle.entitlement.specs.declared.roles.AnswerKind.TheVariants as answer
 use Rattle.entitlement.specs.declared.roles.Facts.{Facts}
-use Rattle.entitlement.specs.Keys.{Entry, KeyName, FNwkSIntKey, SNwkSIntKey, NwkSEncKey, AppSKey, entitled}
+use Rattle.entitlement.specs.Keys.{Entry, FNwkSIntKey, SNwkSIntKey, NwkSEncKey, AppSKey, entitled}
 use Rattle.entitlement.specs.Roles.{role}
 use Rattle.wire_ids.specs.declared.party.Sender.{Sender}
-use Rattle.js_core.specs.declared.decision.AcceptedJoin.{AcceptedJoin}
 use Rattle.js_core.specs.declared.decision.Decision.{Decision}
 use Rattle.js_core.specs.declared.decision.Decision.TheVariants as decision
 use Rattle.js_core.specs.declared.frames.JoinFrame.{JoinFrame}

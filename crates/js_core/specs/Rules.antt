@@ -1,5 +1,5 @@
 -- The rules by which requests are refused, in their order: the first that holds gives the answer.
-use Rattle.std.specs.Prelude.{ℕ, ◌==◌, ◌||◌, ◌&&◌, nat_le, not, List, [], ◌∷◌, ◌++◌, length, take, drop, slice_get, slice_index, Option, Some, None, Bool, true, false, is_some, is_none, if◌then◌else◌}
+use Rattle.std.specs.Prelude.{ℕ, ◌==◌, ◌||◌, nat_le, not, List, [], ◌∷◌, take, drop, slice_get, Option, Some, None, Bool, true, false, is_none}
 use Rattle.std.specs.List.{list_any}
 use Rattle.std.specs.Str.{bytes_eq}
 use Rattle.wire_ids.specs.Rules.{Rule}
@@ -12,7 +12,6 @@ use Rattle.agreements.specs.declared.rows.DeviceRow.{DeviceRow}
 use Rattle.backend_json.specs.declared.head.Head.{Head}
 use Rattle.backend_json.specs.declared.request.JoinRequest.{JoinRequest}
 use Rattle.backend_json.specs.declared.request.AppSKeyRequest.{AppSKeyRequest}
-use Rattle.backend_json.specs.declared.request.SessionKeyId.{SessionKeyId}
 use Rattle.backend_json.specs.declared.refusal.Refusal.{Refusal}
 use Rattle.backend_json.specs.declared.refusal.Refusal.TheVariants.{Sender, Receiver, «Type», Size, Frame, Device, Home, Eui, Mic, Counter, Spent, Session}
 use Rattle.js_core.specs.declared.frames.JoinFrame.{JoinFrame}

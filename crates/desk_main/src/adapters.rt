@@ -1,0 +1,101 @@
+ghost use Rattle.std.specs.Prelude.{◌≡◌};
+
+use disk_model::{Failed, Sink, Source};
+use std::io::{Read, Write};
+
+/// Any reader of std. What it has left is told where the reader tells.
+#[derive(Drop)]
+pub struct ReadSource<R: Read> {
+    inner: R,
+    faults: u64,
+}
+
+impl<R: Read> ReadSource<R> {
+    /// The source of a reader's bytes.
+    pub fn new(inner: R) -> Self {
+        ReadSource { inner, faults: 0 }
+    }
+}
+
+impl<R: Read> Source for ReadSource<R> {
+    ghost left = { λ s. R.remaining s.inner };
+
+    ghost faults = { λ s. s.faults };
+
+    fn read(&mut self, room: &mut [u8]) -> Result<usize, Failed> {
+        match self.inner.read(room) {
+            Ok(count) => Ok(count),
+            Err(_) => {
+                self.faults = self.faults.saturating_add(1);
+                Err(Failed)
+            }
+        }
+    }
+}
+
+/// Any writer of std. What was written is told where the writer tells.
+#[derive(Drop)]
+pub struct WriteSink<W: Write> {
+    inner: W,
+    faults: u64,
+}
+
+impl<W: Write> WriteSink<W> {
+    /// The sink of a writer's bytes.
+    pub fn new(inner: W) -> Self {
+        WriteSink { inner, faults: 0 }
+    }
+}
+
+impl<W: Write> Sink for WriteSink<W> {
+    ghost written = { λ s. W.contents s.inner };
+
+    ghost faults = { λ s. s.faults };
+
+    fn write(&mut self, piece: &[u8]) -> Result<usize, Failed> {
+        match self.inner.write(piece) {
+            Ok(count) => if count == 0 && !piece.is_empty() {
+                self.faults = self.faults.saturating_add(1);
+                Err(Failed)
+            } else {
+                Ok(count)
+            },
+            Err(_) => {
+                self.faults = self.faults.saturating_add(1);
+                Err(Failed)
+            }
+        }
+    }
+}
+
+/// A file that is read. Where it couldn't be opened, each call fails and is counted.
+#[derive(Drop)]
+pub struct FileSource<F: Read> {
+    file: Option<F>,
+    faults: u64,
+}
+
+impl<F: Read + Drop> FileSource<F> {
+    /// The source of an opened file's bytes, or of a file that couldn't be opened.
+    pub fn new(file: Option<F>) -> Self {
+        FileSource { file, faults: 0 }
+    }
+}
+
+impl<F: Read> Source for FileSource<F> {
+    ghost use Rattle.std.specs.Prelude.{None};
+
+    ghost left = { λ s. None };
+
+    ghost faults = { λ s. s.faults };
+
+    fn read(&mut self, room: &mut [u8]) -> Result<usize, Failed> {
+        if let Some(file) = &mut self.file {
+            if let Ok(count) = file.read(room) {
+                return Ok(count);
+            }
+        }
+        self.faults = self.faults.saturating_add(1);
+        Err(Failed)
+    }
+}

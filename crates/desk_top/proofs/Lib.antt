@@ -1,0 +1,6 @@
+pub mod Alike
+pub mod CommandLemmas
+pub mod EndLemmas
+pub mod Results
+pub mod Texts
+pub mod TurnLemmas

@@ -1,0 +1,70 @@
+-- What a command brings about.
+use Rattle.std.specs.Prelude.{◌⊎◌, ℕ, ◌^◌, List, [], ◌∷◌, ◌++◌, Option, Result, Ok, Err}
+use Rattle.std.specs.Io.KnownBytes.{Appends, IsAtEnd, Keeps}
+use Rattle.disk_model.specs.Written.{AppendsFront}
+use Rattle.agreements.specs.Walk.{Config}
+use Rattle.js_core.specs.Step.{fresh}
+use Rattle.desk_top.specs.LastLines.{counts_line}
+use Rattle.desk_top.specs.Text.{ReadsTables}
+use Rattle.desk_top.specs.Turns.{WritesAll, WritesFront, WritesWhole}
+use Rattle.desk_top.specs.declared.words.Command.{Command}
+use Rattle.desk_top.specs.declared.words.Command.TheVariants.{Check, Answer}
+use Rattle.desk_top.specs.declared.fault.Fault.{Fault}
+use Rattle.desk_top.specs.declared.fault.Fault.TheVariants.{Usage, Tables, Read, Write, TooMuch, Memory}
+
+-- the tables are valid, and all lines have their answer
+abbrev pub AnswersAll : Option (List ℕ) → Option (List ℕ) → Option (List ℕ) → Option (List ℕ) → Type 0
+AnswersAll text before out written = (c : Config) × ReadsTables text (Ok c) × WritesAll c (fresh c) before out written
+
+-- the tables are valid, and a front of the answers was written
+abbrev pub AnswersFront : Option (List ℕ) → Option (List ℕ) → Option (List ℕ) → Option (List ℕ) → Type 0
+AnswersFront text before out written = (c : Config) × ReadsTables text (Ok c) × WritesFront c (fresh c) before out written
+
+-- the tables are valid, and each line has its answer whose end was taken and is among the first 2^30 bytes
+abbrev pub AnswersWhole : Option (List ℕ) → Option (List ℕ) → Option (List ℕ) → Option (List ℕ) → Option (List ℕ) → Type 0
+AnswersWhole text before after out written = (c : Config) × ReadsTables text (Ok c) × WritesWhole (2 ^ 30) c (fresh c) before after out written
+
+-- the tables are valid, and their counts were written
+abbrev pub ChecksAll : Option (List ℕ) → Option (List ℕ) → Option (List ℕ) → Type 0
+ChecksAll text out written = (c : Config) × ReadsTables text (Ok c) × Appends out written (counts_line c ++ 10 ∷ [])
+
+-- the tables are valid, and a front of their counts was written
+abbrev pub ChecksFront : Option (List ℕ) → Option (List ℕ) → Option (List ℕ) → Type 0
+ChecksFront text out written = (c : Config) × ReadsTables text (Ok c) × AppendsFront out written (counts_line c ++ 10 ∷ [])
+
+-- what stands written after the counts were printed, by how that ended
+abbrev pub Counted : Config → Option (List ℕ) → Option (List ℕ) → Result (Unit {0}) Fault → Type 0
+Counted c out written (Ok u) = Appends out written (counts_line c ++ 10 ∷ [])
+Counted c out written (Err Write) = AppendsFront out written (counts_line c ++ 10 ∷ [])
+Counted c out written (Err Memory) = Keeps out written
+Counted c out written (Err Usage) = ⊥
+Counted c out written (Err (Tables refusal)) = ⊥
+Counted c out written (Err Read) = ⊥
+Counted c out written (Err TooMuch) = ⊥
+
+-- what stands written after the lines were answered, by how that ended
+abbrev pub Answered : ℕ → Config → Option (List ℕ) → Option (List ℕ) → Option (List ℕ) → Option (List ℕ) → Result (Unit {0}) Fault → Type 0
+Answered limit c before after out written (Ok u) = WritesAll c (fresh c) before out written × IsAtEnd after
+Answered limit c before after out written (Err Read) = WritesWhole limit c (fresh c) before after out written
+Answered limit c before after out written (Err TooMuch) = WritesWhole limit c (fresh c) before after out written
+Answered limit c before after out written (Err Write) = WritesFront c (fresh c) before out written
+Answered limit c before after out written (Err Memory) = WritesFront c (fresh c) before out written
+Answered limit c before after out written (Err Usage) = ⊥
+Answered limit c before after out written (Err (Tables refusal)) = ⊥
+
+-- what a command leaves behind before its last line is printed, by how it ended
+abbrev pub Did : Command → Option (List ℕ) → Option (List ℕ) → Option (List ℕ) → Option (List ℕ) → Option (List ℕ) → Result (Unit {0}) Fault → Type 0
+Did Check text before after out written (Ok u) = ChecksAll text out written
+Did Check text before after out written (Err Write) = ChecksFront text out written
+Did Check text before after out written (Err Memory) = Keeps out written
+Did Check text before after out written (Err Usage) = ⊥
+Did Check text before after out written (Err (Tables refusal)) = Keeps out written
+Did Check text before after out written (Err Read) = Keeps out written
+Did Check text before after out written (Err TooMuch) = ⊥
+Did Answer text before after out written (Ok u) = AnswersAll text before out written × IsAtEnd after
+Did Answer text before after out written (Err Read) = (Keeps before after × Keeps out written) ⊎ AnswersWhole text before after out written
+Did Answer text before after out written (Err TooMuch) = AnswersWhole text before after out written
+Did Answer text before after out written (Err Write) = AnswersFront text before out written
+Did Answer text before after out written (Err Memory) = Keeps out written ⊎ AnswersFront text before out written
+Did Answer text before after out written (Err Usage) = ⊥
+Did Answer text before after out written (Err (Tables refusal)) = Keeps out written

@@ -1,0 +1,97 @@
+ghost use Rattle.std.specs.Prelude.{◌≡◌, ◌≢◌, ◌↔◌, ◌+◌, ◌^◌, ◌<◌, ◌≤◌, [], List, ℕ, length, map, Err, IfOk, IfErr, OnOk, OnErr, IsErrOf};
+ghost use Rattle.std.specs.Bool.{OnFalse};
+ghost use Rattle.std.specs.Io.KnownBytes.{Consumes, IsAtEnd, Keeps};
+ghost use Rattle.wire_ids.specs.Causes.{Rose};
+ghost use Rattle.line_reader.specs.Ahead.{TakesCount, budget, coming};
+ghost use Rattle.line_reader.specs.Hearing.{StopsBehind, StopsInLine};
+ghost use Rattle.agreements.specs.LookUps.{keys_of};
+ghost use Rattle.js_core.specs.Machine.{IsOf};
+ghost use Rattle.desk_top.specs.Commands.{Answered};
+ghost use Rattle.desk_top.specs.Turns.{Spends, Turns, WritesFront};
+ghost use Rattle.desk_top.specs.Faults.{IsOfLines};
+ghost use Rattle.desk_top.specs.declared.fault.Fault.TheVariants as fault;
+
+use crate::fault::Fault;
+use crate::last_line::write_line;
+use agreements::Tables;
+use disk_model::{Sink, Source};
+use js_core::{State, answer};
+use key_vault::{BlockFn, Vault};
+use line_reader::{Ahead, Heard, next_line};
+use std::alloc::Global;
+
+// Hears a line and answers it, where there is one.
+fn turn<E: BlockFn, D: BlockFn, T: Source, O: Sink>(
+    alloc: Global,
+    tables: &Tables,
+    vault: &Vault<E, D>,
+    ahead: &mut Ahead,
+    state: &mut State,
+    input: &mut T,
+    out: &mut O,
+) -> Result<bool, Fault>
+    requires allowed { ahead.old.taken ≤ ahead.old.limit }
+    requires keys { vault.now ≡ map keys_of tables.now.devices }
+    requires of { IsOf tables.now state.old }
+
+    ensures of { IsOf tables.now state.new }
+    ensures limit { ahead.new.limit ≡ ahead.old.limit }
+    ensures turns { IfOk result (λ goes. Turns tables.now (coming ahead.old (T.left input.old)) state.old (O.written out.old) goes
+        (coming ahead.new (T.left input.new)) state.new (O.written out.new)) }
+    ensures end { IfOk result (λ goes. OnFalse goes (IsAtEnd (T.left input.new))) }
+    ensures front { OnErr result (WritesFront tables.now state.old (coming ahead.old (T.left input.old)) (O.written out.old) (O.written out.new)) }
+    ensures kind { IfErr result IsOfLines }
+    ensures spends { IfOk result (λ goes. Spends goes (budget ahead.old) (budget ahead.new)) }
+    ensures taken { TakesCount (T.left input.old) (T.left input.new) ahead.old.taken ahead.new.taken }
+    ensures within { OnOk result (ahead.new.taken ≤ ahead.new.limit) }
+    ensures over { IfErr result (λ e. e ≢ fault.TooMuch → ahead.new.taken ≤ ahead.new.limit) }
+
+    ensures read { IsErrOf result Fault.Read → Rose (T.faults input.old) (T.faults input.new) }
+    ensures read_in_line { IsErrOf result Fault.Read → StopsInLine (coming ahead.old (T.left input.old)) (T.left input.new)
+        × Keeps (O.written out.old) (O.written out.new) }
+    ensures write { IsErrOf result Fault.Write → Rose (O.faults out.old) (O.faults out.new) }
+    ensures too_much { IsErrOf result Fault.TooMuch → ahead.new.taken ≡ ahead.new.limit + 1 }
+    ensures stops_behind { IsErrOf result Fault.TooMuch → StopsBehind (coming ahead.old (T.left input.old)) (T.left input.new)
+        × Keeps (O.written out.old) (O.written out.new) }
+    ensures input_count { T.faults input.old ≤ T.faults input.new }
+    ensures out_count { O.faults out.old ≤ O.faults out.new }
+{
+    match next_line(alloc, ahead, input)? {
+        Heard::Line(line) => {
+            let text = answer(alloc, tables, vault, state, line.as_slice())?;
+            write_line(out, text.as_slice())?;
+            Ok(true)
+        }
+        Heard::End => Ok(false),
+    }
+}
+
+// Answers the lines of the input to its end. Their ends are looked for among its first `limit` bytes.
+pub(crate) fn answer_lines<E: BlockFn, D: BlockFn, T: Source, O: Sink>(
+    alloc: Global,
+    limit: u64,
+    tables: &Tables,
+    vault: &Vault<E, D>,
+    input: &mut T,
+    out: &mut O,
+) -> Result<(), Fault>
+    requires limit { limit < 2 ^ 63 }
+    requires keys { vault.now ≡ map keys_of tables.now.devices }
+
+    // What was written, by how it ended.
+    ensures answered { Answered limit tables.now (T.left input.old) (T.left input.new) (O.written out.old) (O.written out.new) result }
+
+    ensures read { IsErrOf result Fault.Read → Rose (T.faults input.old) (T.faults input.new) }
+    ensures write { IsErrOf result Fault.Write → Rose (O.faults out.old) (O.faults out.new) }
+
+    // So many bytes were taken, and too many only where it is said.
+    ensures too_much { (bytes : List ℕ) × Consumes (T.left input.old) (T.left input.new) bytes
+        × ((result ≡ Err fault.TooMuch) ↔ (limit < length bytes)) × (length bytes ≤ limit + 1) }
+    ensures input_count { T.faults input.old ≤ T.faults input.new }
+    ensures out_count { O.faults out.old ≤ O.faults out.new }
+{
+    let mut ahead = Ahead::with_limit(alloc, limit)?;
+    let mut state = State::new(alloc, tables)?;
+    'lines: while turn(alloc, tables, vault, &mut ahead, &mut state, input, out)? {}
+    Ok(())
+}

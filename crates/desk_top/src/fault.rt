@@ -1,0 +1,63 @@
+ghost use Rattle.std.specs.Prelude.{◌≡◌};
+ghost use Rattle.desk_top.specs.declared.fault.Fault.TheVariants as fault;
+
+use agreements::TablesFault;
+use disk_model::Failed;
+use line_reader::LineFault;
+use std::alloc::AllocError;
+use wire_ids::Memory;
+
+// Why a command wasn't done to its end.
+#[derive(Drop)]
+pub(crate) enum Fault {
+    // The words are no command.
+    Usage,
+    // The tables are refused.
+    Tables(TablesFault),
+    // A read failed.
+    Read,
+    // A write failed.
+    Write,
+    // More input was taken than is allowed.
+    TooMuch,
+    // Want of memory.
+    Memory,
+}
+
+impl From<LineFault> for Fault {
+    ghost use Rattle.desk_top.specs.Faults.{fault_of_line};
+
+    ghost from_gives = { λ line e. e ≡ fault_of_line line };
+
+    fn from(line: LineFault) -> Self {
+        match line {
+            LineFault::Failed => Fault::Read,
+            LineFault::TooMuch => Fault::TooMuch,
+            LineFault::Memory => Fault::Memory,
+        }
+    }
+}
+
+impl From<AllocError> for Fault {
+    ghost from_gives = { λ _ e. e ≡ fault.Memory };
+
+    fn from(_: AllocError) -> Self {
+        Fault::Memory
+    }
+}
+
+impl From<Memory> for Fault {
+    ghost from_gives = { λ _ e. e ≡ fault.Memory };
+
+    fn from(_: Memory) -> Self {
+        Fault::Memory
+    }
+}
+
+impl From<Failed> for Fault {
+    ghost from_gives = { λ _ e. e ≡ fault.Write };
+
+    fn from(_: Failed) -> Self {
+        Fault::Write
+    }
+}

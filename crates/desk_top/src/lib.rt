@@ -1,0 +1,20 @@
+//! The program without its outside: the words, the tables text, and the answers to the input's lines.
+#![tactic(auto)]
+
+mod answering;
+mod counts;
+mod fault;
+mod last_line;
+mod opening;
+mod program;
+#[cfg(test)]
+mod rows;
+mod sample;
+#[cfg(test)]
+mod tests;
+mod vaulted;
+mod words;
+
+pub use program::run;
+pub use sample::SAMPLE_TABLES;
+pub use words::{WordFiles, files_of};

@@ -1,0 +1,94 @@
+ghost use Rattle.std.specs.Prelude.{◌≡◌, ◌≢◌, ◌<◌, ◌≤◌, ◌++◌, List, ℕ, length, Ok, Err, IfOk, IfErr, IsErrOf};
+ghost use Rattle.std.specs.Io.KnownBytes.{Consumes, IsAtEnd};
+ghost use Rattle.wire_ids.specs.Causes.{Rose};
+ghost use Rattle.agreements.specs.declared.fault.TablesFault.{TablesFault as Refusal};
+ghost use Rattle.agreements.specs.declared.fault.TablesFault.TheVariants as refusals;
+ghost use Rattle.desk_top.specs.Faults.{IsOfOpening, IsOfReading};
+ghost use Rattle.desk_top.specs.Text.{ReadsText, ReadsTables, text_room};
+ghost use Rattle.desk_top.specs.declared.fault.Fault.TheVariants as fault;
+
+use crate::fault::Fault;
+use agreements::{Tables, TablesFault, read_tables};
+use disk_model::Source;
+use std::alloc::Global;
+
+/// One byte more than a tables text may have: the byte that shows it to be too long.
+const TEXT_ROOM: usize = 4194305;
+
+// How many bytes a read asks for.
+const PIECE: usize = 4096;
+
+fn room() -> [u8; PIECE] {
+    [0; PIECE]
+}
+
+// Reads a piece of at most `most` bytes behind the text, and says how long it is: 0 at the end alone.
+fn read_piece<S: Source>(
+    source: &mut S,
+    room: &mut [u8; PIECE],
+    most: usize,
+    text: &mut Vec<u8>,
+) -> Result<usize, Fault>
+    requires some { 0 < most }
+    ensures piece { (piece : List ℕ) × Consumes (S.left source.old) (S.left source.new) piece × (length piece ≤ most)
+        × IfOk result (λ n. (text.new.items ≡ text.old.items ++ piece) × (n ≡ length piece)) }
+    ensures end { IfOk result (λ n. n ≡ 0 → IsAtEnd (S.left source.new)) }
+    ensures kind { IfErr result IsOfReading }
+    ensures read { IsErrOf result Fault.Read → Rose (S.faults source.old) (S.faults source.new) }
+    ensures later { S.faults source.old ≤ S.faults source.new }
+{
+    let here = most.min(PIECE);
+    let Ok(count) = source.read(&mut room[..here]) else {
+        return Err(Fault::Read);
+    };
+    text.extend_from_slice(&room[..count])?;
+    Ok(count)
+}
+
+// The text of a source, read to its end or to its first `most` bytes.
+fn read_text<S: Source>(alloc: Global, most: usize, source: &mut S) -> Result<Vec<u8>, Fault>
+    ensures text { IfOk result (λ text. ReadsText most (S.left source.old) text.items) }
+    ensures kind { IfErr result IsOfReading }
+    ensures taken { (bytes : List ℕ) × Consumes (S.left source.old) (S.left source.new) bytes × (length bytes ≤ most) }
+    ensures read { IsErrOf result Fault.Read → Rose (S.faults source.old) (S.faults source.new) }
+    ensures later { S.faults source.old ≤ S.faults source.new }
+{
+    let mut text = Vec::new(alloc);
+    let mut room = room();
+    'pieces: while text.len() < most {
+        let left = most - text.len();
+        let count = read_piece(source, &mut room, left, &mut text)?;
+        if count == 0 {
+            return Ok(text);
+        }
+    }
+    Ok(text)
+}
+
+// Why there are no tables.
+fn refused(refusal: TablesFault) -> Fault
+    ensures kind { IsOfOpening result }
+    ensures unread { result ≢ fault.Read }
+    ensures told { (told : Refusal) → result ≡ fault.Tables told → (told ≡ refusal) × (refusal ≢ refusals.Memory) }
+{
+    match refusal {
+        TablesFault::Memory => Fault::Memory,
+        refusal => Fault::Tables(refusal),
+    }
+}
+
+// The tables of a source's text.
+pub(crate) fn open_tables<S: Source>(alloc: Global, source: &mut S) -> Result<Tables, Fault>
+    ensures tables { IfOk result (λ tables. ReadsTables (S.left source.old) (Ok tables)) }
+    ensures kind { IfErr result IsOfOpening }
+    ensures refused { (refusal : Refusal) → IsErrOf result (fault.Tables refusal) → ReadsTables (S.left source.old) (Err refusal) }
+    ensures taken { (bytes : List ℕ) × Consumes (S.left source.old) (S.left source.new) bytes × (length bytes ≤ text_room) }
+    ensures read { IsErrOf result Fault.Read → Rose (S.faults source.old) (S.faults source.new) }
+    ensures later { S.faults source.old ≤ S.faults source.new }
+{
+    let text = read_text(alloc, TEXT_ROOM, source)?;
+    match read_tables(alloc, &text) {
+        Ok(tables) => Ok(tables),
+        Err(refusal) => Err(refused(refusal)),
+    }
+}

@@ -75,3 +75,10 @@ impl State {
         join_in(&mut self.devices, device, seed);
     }
 }
+
+fn is_send<T: Send>() {}
+
+// That a state may be handed to another thread.
+fn state_is_send() {
+    is_send::<State>()
+}

@@ -1,7 +1,15 @@
-ghost use Rattle.std.specs.Prelude.{◌≡◌};
+ghost use Rattle.wire_ids.specs.Causes.{Rose};
 
 use disk_model::{Failed, Sink, Source};
 use std::io::{Read, Write};
+
+// Counts a fault. The count stands still at its type's end.
+fn failed(faults: &mut u64) -> Failed
+    ensures { Rose faults.old faults.new }
+{
+    *faults = faults.saturating_add(1);
+    Failed
+}
 
 /// Any reader of std. What it has left is told where the reader tells.
 #[derive(Drop)]
@@ -25,10 +33,7 @@ impl<R: Read> Source for ReadSource<R> {
     fn read(&mut self, room: &mut [u8]) -> Result<usize, Failed> {
         match self.inner.read(room) {
             Ok(count) => Ok(count),
-            Err(_) => {
-                self.faults = self.faults.saturating_add(1);
-                Err(Failed)
-            }
+            Err(_) => Err(failed(&mut self.faults)),
         }
     }
 }
@@ -54,16 +59,9 @@ impl<W: Write> Sink for WriteSink<W> {
 
     fn write(&mut self, piece: &[u8]) -> Result<usize, Failed> {
         match self.inner.write(piece) {
-            Ok(count) => if count == 0 && !piece.is_empty() {
-                self.faults = self.faults.saturating_add(1);
-                Err(Failed)
-            } else {
-                Ok(count)
-            },
-            Err(_) => {
-                self.faults = self.faults.saturating_add(1);
-                Err(Failed)
-            }
+            Ok(0) if !piece.is_empty() => Err(failed(&mut self.faults)),
+            Ok(count) => Ok(count),
+            Err(_) => Err(failed(&mut self.faults)),
         }
     }
 }
@@ -95,7 +93,6 @@ impl<F: Read> Source for FileSource<F> {
                 return Ok(count);
             }
         }
-        self.faults = self.faults.saturating_add(1);
-        Err(Failed)
+        Err(failed(&mut self.faults))
     }
 }

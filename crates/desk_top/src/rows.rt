@@ -42,7 +42,7 @@ fn expect(
 fn expect_rows(rt: &impl Abort, alloc: Global, rows: &[Row]) -> Result<(), Fail> {
     for row in rows {
         let input = line(alloc, JOIN, row.0)?;
-        let wanted = answers::text(alloc, &row.1)?;
+        let wanted = answers::text(alloc, row.1)?;
         expect(rt, alloc, SAMPLE_TABLES, input.as_bytes(), &wanted)?;
     }
     Ok(())

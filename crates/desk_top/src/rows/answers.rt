@@ -3,62 +3,32 @@
 use std::alloc::Global;
 use std::test::Fail;
 
-/// What a line is answered.
-#[derive(Clone, Copy)]
-pub(crate) enum Expected {
-    /// A line that is no readable message.
-    Malformed,
-    /// A JoinReq of network 000014 to the desk's JoinEUI is refused, with this Description and ResultCode.
-    Refused(&'static str, &'static str),
-    /// Another request is refused: MessageType, ProtocolVersion, ReceiverID, SenderID, Description and
-    /// ResultCode of the answer.
-    Headed([&'static str; 6]),
-}
+/// The parts of a refusal with a head, whose TransactionID is 1: MessageType, ProtocolVersion,
+/// ReceiverID, SenderID, Description and ResultCode. None for a line that is no readable message.
+pub(crate) type Parts = &'static [&'static str];
 
 pub(crate) const MALFORMED: &str =
-    "{\"MessageType\":\"ErrorNotif\",\"Result\":{\"Description\":\"message\",\
-     \"ResultCode\":\"MalformedRequest\"}}\n";
+    "{\"MessageType\":\"ErrorNotif\",\"Result\":{\"Description\":\"message\",\"ResultCode\":\"MalformedRequest\"}}\n";
 
-// The text of a refusal with a head, whose TransactionID is 1.
-fn headed(alloc: Global, parts: &[&'static str; 6]) -> Result<String, Fail> {
-    let [kind, version, receiver, sender, description, code] = parts;
+/// The text of an answer.
+pub(crate) fn text(alloc: Global, parts: Parts) -> Result<String, Fail> {
     let mut out = String::new(alloc);
-    let pieces = [
-        "{\"MessageType\":\"",
-        kind,
-        "\",\"ProtocolVersion\":\"",
-        version,
-        "\",\"ReceiverID\":\"",
-        receiver,
-        "\",\"Result\":{\"Description\":\"",
-        description,
-        "\",\"ResultCode\":\"",
-        code,
-        "\"},\"SenderID\":\"",
-        sender,
-        "\",\"TransactionID\":1}\n",
-    ];
-    for piece in pieces.iter() {
-        out.push_str(piece)?;
+    if parts.len() < 6 {
+        out.push_str(MALFORMED)?;
+        return Ok(out);
     }
+    out.push_str("{\"MessageType\":\"")?;
+    out.push_str(parts[0])?;
+    out.push_str("\",\"ProtocolVersion\":\"")?;
+    out.push_str(parts[1])?;
+    out.push_str("\",\"ReceiverID\":\"")?;
+    out.push_str(parts[2])?;
+    out.push_str("\",\"Result\":{\"Description\":\"")?;
+    out.push_str(parts[4])?;
+    out.push_str("\",\"ResultCode\":\"")?;
+    out.push_str(parts[5])?;
+    out.push_str("\"},\"SenderID\":\"")?;
+    out.push_str(parts[3])?;
+    out.push_str("\",\"TransactionID\":1}\n")?;
     Ok(out)
-}
-
-/// The text of an expected answer.
-pub(crate) fn text(alloc: Global, expected: &Expected) -> Result<String, Fail> {
-    match expected {
-        Expected::Malformed => Ok(String::from_str(alloc, MALFORMED)?),
-        Expected::Refused(description, code) => headed(
-            alloc,
-            &[
-                "JoinAns",
-                "1.1",
-                "000014",
-                "70b3d57ed0000001",
-                description,
-                code,
-            ],
-        ),
-        Expected::Headed(parts) => headed(alloc, parts),
-    }
 }

@@ -1,30 +1,76 @@
 //! JoinReq lines with one or two members changed, and the answer that each gets.
 
-use super::answers::Expected::{self, Headed, Malformed, Refused};
+use super::answers::Parts;
 use super::lines::Member;
 
-/// A row: the members that differ from a valid join, an empty value for one that is left out.
-pub(crate) type Row = (&'static [Member], Expected);
+/// A row: the members that differ from a valid join, an empty value for one that is left out; and the
+/// parts of the answer.
+pub(crate) type Row = (&'static [Member], Parts);
 
-const MESSAGE: Expected = Refused("message", "MalformedRequest");
+/// The answer of a line that is no readable message.
+const MALFORMED: Parts = &[];
 
-const SIZE: Expected = Refused("size", "FrameSizeError");
+const MESSAGE: Parts = &[
+    "JoinAns",
+    "1.1",
+    "000014",
+    "70b3d57ed0000001",
+    "message",
+    "MalformedRequest",
+];
 
-const FRAME: Expected = Refused("frame", "MalformedRequest");
+const SIZE: Parts = &[
+    "JoinAns",
+    "1.1",
+    "000014",
+    "70b3d57ed0000001",
+    "size",
+    "FrameSizeError",
+];
 
-const DEVICE: Expected = Refused("device", "UnknownDevEUI");
+const FRAME: Parts = &[
+    "JoinAns",
+    "1.1",
+    "000014",
+    "70b3d57ed0000001",
+    "frame",
+    "MalformedRequest",
+];
 
-const EUI: Expected = Refused("eui", "JoinReqFailed");
+const DEVICE: Parts = &[
+    "JoinAns",
+    "1.1",
+    "000014",
+    "70b3d57ed0000001",
+    "device",
+    "UnknownDevEUI",
+];
 
-const MIC: Expected = Refused("mic", "MICFailed");
+const EUI: Parts = &[
+    "JoinAns",
+    "1.1",
+    "000014",
+    "70b3d57ed0000001",
+    "eui",
+    "JoinReqFailed",
+];
+
+const MIC: Parts = &[
+    "JoinAns",
+    "1.1",
+    "000014",
+    "70b3d57ed0000001",
+    "mic",
+    "MICFailed",
+];
 
 /// Each member missing.
 pub(crate) const MISSING: &[Row] = &[
-    (&[("ProtocolVersion", "")], Malformed),
-    (&[("SenderID", "")], Malformed),
-    (&[("ReceiverID", "")], Malformed),
-    (&[("TransactionID", "")], Malformed),
-    (&[("MessageType", "")], Malformed),
+    (&[("ProtocolVersion", "")], MALFORMED),
+    (&[("SenderID", "")], MALFORMED),
+    (&[("ReceiverID", "")], MALFORMED),
+    (&[("TransactionID", "")], MALFORMED),
+    (&[("MessageType", "")], MALFORMED),
     (&[("MACVersion", "")], MESSAGE),
     (&[("PHYPayload", "")], MESSAGE),
     (&[("DevEUI", "")], MESSAGE),
@@ -35,20 +81,20 @@ pub(crate) const MISSING: &[Row] = &[
 
 /// Each member of another type, too short or too long.
 pub(crate) const ILL_FORMED: &[Row] = &[
-    (&[("ProtocolVersion", "1.1")], Malformed),
-    (&[("SenderID", "14")], Malformed),
-    (&[("SenderID", "\"00014\"")], Malformed),
-    (&[("SenderID", "\"0000014\"")], Malformed),
-    (&[("SenderID", "\"00001g\"")], Malformed),
-    (&[("ReceiverID", "null")], Malformed),
-    (&[("ReceiverID", "\"70b3d57ed000001\"")], Malformed),
-    (&[("ReceiverID", "\"70b3d57ed00000011\"")], Malformed),
-    (&[("TransactionID", "\"1\"")], Malformed),
-    (&[("TransactionID", "4294967296")], Malformed),
-    (&[("TransactionID", "1.0")], Malformed),
-    (&[("TransactionID", "1e0")], Malformed),
-    (&[("TransactionID", "-0")], Malformed),
-    (&[("MessageType", "true")], Malformed),
+    (&[("ProtocolVersion", "1.1")], MALFORMED),
+    (&[("SenderID", "14")], MALFORMED),
+    (&[("SenderID", "\"00014\"")], MALFORMED),
+    (&[("SenderID", "\"0000014\"")], MALFORMED),
+    (&[("SenderID", "\"00001g\"")], MALFORMED),
+    (&[("ReceiverID", "null")], MALFORMED),
+    (&[("ReceiverID", "\"70b3d57ed000001\"")], MALFORMED),
+    (&[("ReceiverID", "\"70b3d57ed00000011\"")], MALFORMED),
+    (&[("TransactionID", "\"1\"")], MALFORMED),
+    (&[("TransactionID", "4294967296")], MALFORMED),
+    (&[("TransactionID", "1.0")], MALFORMED),
+    (&[("TransactionID", "1e0")], MALFORMED),
+    (&[("TransactionID", "-0")], MALFORMED),
+    (&[("MessageType", "true")], MALFORMED),
     (&[("MACVersion", "1.1")], MESSAGE),
     (&[("PHYPayload", "[]")], MESSAGE),
     (&[("PHYPayload", "\"000\"")], MESSAGE),
@@ -106,130 +152,130 @@ const NO_OPT_NEG: Member = ("DLSettings", "\"00\"");
 pub(crate) const RULES: &[Row] = &[
     (
         &[("ProtocolVersion", "\"2.0\"")],
-        Headed([
+        &[
             "JoinAns",
             "1.1",
             "000014",
             "70b3d57ed0000001",
             "version",
             "InvalidProtocolVersion",
-        ]),
+        ],
     ),
     (
         &[("SenderID", "\"00001f\"")],
-        Headed([
+        &[
             "JoinAns",
             "1.1",
             "00001f",
             "70b3d57ed0000001",
             "sender",
             "UnknownSender",
-        ]),
+        ],
     ),
     (
         &[("SenderID", "\"000013\"")],
-        Headed([
+        &[
             "JoinAns",
             "1.1",
             "000013",
             "70b3d57ed0000001",
             "sender",
             "UnknownSender",
-        ]),
+        ],
     ),
     (
         &[("SenderID", "\"70b3d57ed0000002\"")],
-        Headed([
+        &[
             "JoinAns",
             "1.1",
             "70b3d57ed0000002",
             "70b3d57ed0000001",
             "sender",
             "UnknownSender",
-        ]),
+        ],
     ),
     (
         &[("ReceiverID", "\"000013\"")],
-        Headed([
+        &[
             "JoinAns",
             "1.1",
             "000014",
             "000013",
             "receiver",
             "UnknownReceiver",
-        ]),
+        ],
     ),
     (
         &[("ReceiverID", "\"70b3d57ed0000002\"")],
-        Headed([
+        &[
             "JoinAns",
             "1.1",
             "000014",
             "70b3d57ed0000002",
             "receiver",
             "UnknownReceiver",
-        ]),
+        ],
     ),
     (
         &[("SenderID", "\"a000000000000001\"")],
-        Headed([
+        &[
             "JoinAns",
             "1.1",
             "a000000000000001",
             "70b3d57ed0000001",
             "type",
             "MalformedRequest",
-        ]),
+        ],
     ),
     (
         &[("SenderID", "\"b000000000000001\"")],
-        Headed([
+        &[
             "JoinAns",
             "1.1",
             "b000000000000001",
             "70b3d57ed0000001",
             "type",
             "MalformedRequest",
-        ]),
+        ],
     ),
     (
         &[("MessageType", "\"HomeNSReq\"")],
-        Headed([
+        &[
             "ErrorNotif",
             "1.1",
             "000014",
             "70b3d57ed0000001",
             "type",
             "MalformedRequest",
-        ]),
+        ],
     ),
     (
         &[
             ("MessageType", "\"HomeNSReq\""),
             ("ReceiverID", "\"000013\""),
         ],
-        Headed([
+        &[
             "ErrorNotif",
             "1.1",
             "000014",
             "000013",
             "type",
             "MalformedRequest",
-        ]),
+        ],
     ),
     (
         &[
             ("MessageType", "\"RejoinReq\""),
             ("ReceiverID", "\"000014\""),
         ],
-        Headed([
+        &[
             "ErrorNotif",
             "1.1",
             "000014",
             "000014",
             "receiver",
             "UnknownReceiver",
-        ]),
+        ],
     ),
     (&[("PHYPayload", "\"\"")], SIZE),
     (&[("PHYPayload", "\"0x\"")], SIZE),
@@ -281,18 +327,25 @@ pub(crate) const RULES: &[Row] = &[
     (&[NO_SUCH_DEVICE, NO_SUCH_DEV_EUI], DEVICE),
     (
         &[NETWORK_15],
-        Headed([
+        &[
             "JoinAns",
             "1.1",
             "000015",
             "70b3d57ed0000001",
             "home",
             "ActivationDisallowed",
-        ]),
+        ],
     ),
     (
         &[OWN_DEVICE, OWN_DEV_EUI],
-        Refused("home", "ActivationDisallowed"),
+        &[
+            "JoinAns",
+            "1.1",
+            "000014",
+            "70b3d57ed0000001",
+            "home",
+            "ActivationDisallowed",
+        ],
     ),
     (&[OTHER_JOIN_EUI], EUI),
     (&[WRONG_MIC], MIC),
@@ -302,85 +355,85 @@ pub(crate) const RULES: &[Row] = &[
 pub(crate) const PAIRS: &[Row] = &[
     (
         &[("ProtocolVersion", "\"2.0\""), ("RxDelay", "16")],
-        Headed([
+        &[
             "JoinAns",
             "2.0",
             "000014",
             "70b3d57ed0000001",
             "message",
             "MalformedRequest",
-        ]),
+        ],
     ),
     (
         &[("ProtocolVersion", "\"2.0\""), ("SenderID", "\"00001f\"")],
-        Headed([
+        &[
             "JoinAns",
             "1.1",
             "00001f",
             "70b3d57ed0000001",
             "version",
             "InvalidProtocolVersion",
-        ]),
+        ],
     ),
     (
         &[("SenderID", "\"00001f\""), ("ReceiverID", "\"000013\"")],
-        Headed([
+        &[
             "JoinAns",
             "1.1",
             "00001f",
             "000013",
             "sender",
             "UnknownSender",
-        ]),
+        ],
     ),
     (
         &[
             ("SenderID", "\"a000000000000001\""),
             ("ReceiverID", "\"000013\""),
         ],
-        Headed([
+        &[
             "JoinAns",
             "1.1",
             "a000000000000001",
             "000013",
             "receiver",
             "UnknownReceiver",
-        ]),
+        ],
     ),
     (
         &[("SenderID", "\"a000000000000001\""), ("PHYPayload", "\"\"")],
-        Headed([
+        &[
             "JoinAns",
             "1.1",
             "a000000000000001",
             "70b3d57ed0000001",
             "type",
             "MalformedRequest",
-        ]),
+        ],
     ),
     (&[("PHYPayload", "\"\""), NO_OPT_NEG], SIZE),
     (&[NO_SUCH_DEVICE, NO_SUCH_DEV_EUI, NO_OPT_NEG], FRAME),
     (
         &[NO_SUCH_DEVICE, NO_SUCH_DEV_EUI, NETWORK_15],
-        Headed([
+        &[
             "JoinAns",
             "1.1",
             "000015",
             "70b3d57ed0000001",
             "device",
             "UnknownDevEUI",
-        ]),
+        ],
     ),
     (
         &[OTHER_JOIN_EUI, NETWORK_15],
-        Headed([
+        &[
             "JoinAns",
             "1.1",
             "000015",
             "70b3d57ed0000001",
             "home",
             "ActivationDisallowed",
-        ]),
+        ],
     ),
     (
         &[(

@@ -36,7 +36,7 @@ pub(crate) const ASK: &[Member] = &[
 ];
 
 // What stands there in place of this member: none where it is left out.
-fn value_of<'a>(member: &'a Member, changes: &'a [Member]) -> &'a str {
+fn value_of(member: &Member, changes: &[Member]) -> &'static str {
     for change in changes {
         if change.0 == member.0 {
             return change.1;
@@ -46,7 +46,7 @@ fn value_of<'a>(member: &'a Member, changes: &'a [Member]) -> &'a str {
 }
 
 // Adds a member, unless its value is empty.
-fn put(out: &mut String, name: &str, value: &str) -> Result<(), Fail> {
+fn put(out: &mut String, name: &'static str, value: &'static str) -> Result<(), Fail> {
     if value.is_empty() {
         return Ok(());
     }

@@ -9,7 +9,7 @@ mod lines;
 use crate::SAMPLE_TABLES;
 use crate::tests::{ANSWER, status_of, words_of};
 use answers::MALFORMED;
-use conversations::{CARRIED, CARRYING, SESSIONS, Step};
+use conversations::{CARRIED, CARRIED_ANSWER, CARRYING, SESSION_ANSWERS, SESSIONS};
 use disk_model::{MemorySink, MemorySource};
 use hostile::HOSTILE;
 use join_rows::{ILL_FORMED, MISSING, PAIRS, RULES, Row};
@@ -48,17 +48,26 @@ fn expect_rows(rt: &impl Abort, alloc: Global, rows: &[Row]) -> Result<(), Fail>
     Ok(())
 }
 
-// The steps are lines of one run.
-fn expect_steps(rt: &impl Abort, alloc: Global, tables: &str, steps: &[Step]) -> Result<(), Fail> {
-    let mut input = String::new(alloc);
-    let mut wanted = String::new(alloc);
-    for step in steps {
-        input.push_str(line(alloc, step.members, step.changes)?.as_str())?;
-        for piece in step.answer {
-            wanted.push_str(piece)?;
-        }
-        wanted.push_str("\n")?;
+// The lines of a conversation.
+fn joined(alloc: Global, text: &str) -> Result<String, Fail> {
+    let mut out = String::new(alloc);
+    for line in text.lines() {
+        out.push_str(if line.is_empty() { "\n" } else { line })?;
     }
+    out.push_str("\n")?;
+    Ok(out)
+}
+
+// The lines of one run.
+fn expect_talk(
+    rt: &impl Abort,
+    alloc: Global,
+    tables: &str,
+    requests: &str,
+    answers: &str,
+) -> Result<(), Fail> {
+    let input = joined(alloc, requests)?;
+    let wanted = joined(alloc, answers)?;
     expect(rt, alloc, tables, input.as_bytes(), &wanted)
 }
 
@@ -74,8 +83,8 @@ fn a_join_is_refused_for_the_first_cause(rt: HostRuntime) -> Result<(), Fail> {
 #[test]
 fn sessions_get_their_keys(rt: HostRuntime) -> Result<(), Fail> {
     let alloc = rt.alloc();
-    expect_steps(&rt, alloc, SAMPLE_TABLES, SESSIONS)?;
-    expect_steps(&rt, alloc, CARRYING, CARRIED)
+    expect_talk(&rt, alloc, SAMPLE_TABLES, SESSIONS, SESSION_ANSWERS)?;
+    expect_talk(&rt, alloc, CARRYING, CARRIED, CARRIED_ANSWER)
 }
 
 #[test]

@@ -217,34 +217,63 @@ fn zeros_without_end(rt: HostRuntime) -> Result<(), Fail> {
     Ok(())
 }
 
-// What stands written where a read fails, a write does, or there is too much input.
+// Three lines, which come in pieces of three bytes; the read after so many fails once.
+fn expect_fault(
+    rt: &impl Abort,
+    alloc: Global,
+    room: usize,
+    passes: u64,
+    status: u8,
+    written: &[u8],
+) -> Result<(), Fail> {
+    let words = words_of(alloc, ANSWER)?;
+    let mut tables = MemorySource::new(SAMPLE_TABLES.as_bytes().to_vec(alloc)?);
+    let mut input = MemorySource::with(b"{}\n{}\n{\n".to_vec(alloc)?, 3, passes, 1);
+    let mut out = MemorySink::new(alloc, room).or(Err("memory"))?;
+    assert_eq!(rt;
+        status_of(alloc, &words, &mut tables, &mut input, &mut out),
+        status
+    );
+    assert_eq!(rt; out.written(), written);
+    Ok(())
+}
+
+// What stands written where a read fails or a write does.
 #[test]
 fn faults(rt: HostRuntime) -> Result<(), Fail> {
     let alloc = rt.alloc();
-    let words = words_of(alloc, ANSWER)?;
     let two = format!(in alloc; "{MALFORMED}{MALFORMED}lwdesk: read\n")?;
-    for (room, passes, status, written) in [
-        (400, 2, 4, two.len()),
-        (100, 100, 5, 100),
-        (0, 100, 5, 0),
-    ] {
-        let mut tables = MemorySource::new(SAMPLE_TABLES.as_bytes().to_vec(alloc)?);
-        let mut input = MemorySource::with(b"{}\n{}\n{\n".to_vec(alloc)?, 3, passes, 1);
-        let mut out = MemorySink::new(alloc, room).or(Err("memory"))?;
-        assert_eq!(rt;
-            status_of(alloc, &words, &mut tables, &mut input, &mut out),
-            status
-        );
-        let (shown, _) = two.as_bytes().split_at(written.min(two.len()));
-        assert_eq!(rt; out.written(), shown);
-    }
+    let (front, _) = two.as_bytes().split_at(two.len().min(100));
+    expect_fault(&rt, alloc, 400, 2, 4, two.as_bytes())?;
+    expect_fault(&rt, alloc, 100, 100, 5, front)?;
+    expect_fault(&rt, alloc, 0, 100, 5, b"")
+}
+
+// Three lines of eight bytes, where so many bytes may be taken: whether there was too much, and how many
+// were answered.
+fn expect_limit(
+    rt: &impl Abort,
+    alloc: Global,
+    limit: u64,
+    too_much: bool,
+    answers: usize,
+) -> Result<(), Fail>
+    requires { limit < 100 }
+{
     let tables = read_tables(alloc, SAMPLE_TABLES.as_bytes()).or(Err("tables"))?;
-    for (limit, fault, answers) in [(8, false, 3), (7, true, 2), (5, true, 1), (2, true, 0)] {
-        let mut input = MemorySource::with(b"{}\n{}\n{\n".to_vec(alloc)?, 4, u64::MAX, 0);
-        let mut out = MemorySink::new(alloc, 400).or(Err("memory"))?;
-        let done = answer_vaulted(alloc, limit, &tables, &mut input, &mut out);
-        assert_eq!(rt; matches!(done, Err(Fault::TooMuch)), fault);
-        assert_eq!(rt; out.written(), MALFORMED.repeat(alloc, answers)?.as_bytes());
-    }
+    let mut input = MemorySource::with(b"{}\n{}\n{\n".to_vec(alloc)?, 4, u64::MAX, 0);
+    let mut out = MemorySink::new(alloc, 400).or(Err("memory"))?;
+    let done = answer_vaulted(alloc, limit, &tables, &mut input, &mut out);
+    assert_eq!(rt; matches!(done, Err(Fault::TooMuch)), too_much);
+    assert_eq!(rt; out.written(), MALFORMED.repeat(alloc, answers)?.as_bytes());
     Ok(())
+}
+
+#[test]
+fn too_much_input(rt: HostRuntime) -> Result<(), Fail> {
+    let alloc = rt.alloc();
+    expect_limit(&rt, alloc, 8, false, 3)?;
+    expect_limit(&rt, alloc, 7, true, 2)?;
+    expect_limit(&rt, alloc, 5, true, 1)?;
+    expect_limit(&rt, alloc, 2, true, 0)
 }

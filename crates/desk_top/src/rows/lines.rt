@@ -24,17 +24,6 @@ pub(crate) const JOIN: &[Member] = &[
     ("RxDelay", "1"),
 ];
 
-/// The members of an AppSKeyReq for the session that the join begins.
-pub(crate) const ASK: &[Member] = &[
-    ("ProtocolVersion", "\"1.1\""),
-    ("SenderID", "\"a000000000000001\""),
-    ("ReceiverID", "\"70b3d57ed0000001\""),
-    ("TransactionID", "7"),
-    ("MessageType", "\"AppSKeyReq\""),
-    ("DevEUI", "\"70b3d57ed0001021\""),
-    ("SessionKeyID", "\"70b3d57ed0001021000001\""),
-];
-
 // What stands there in place of this member: none where it is left out.
 fn value_of(member: &Member, changes: &[Member]) -> &'static str {
     for change in changes {

@@ -1,7 +1,7 @@
 mod cases;
 mod sample;
 
-use crate::{Passive, read_tables};
+use crate::{Passive, Tables, read_tables};
 use cases::{ALLOWED, DESK, DEVICES, PARTIES};
 use sample::{SECTIONS, sample};
 use std::alloc::{AllocError, Global};
@@ -54,18 +54,50 @@ fn expect_each(
     Ok(())
 }
 
-#[test]
-fn faults(rt: HostRuntime) -> Result<(), Fail> {
-    let alloc = rt.alloc();
-    let text = sample(alloc)?;
-    expect_each(&rt, alloc, text.as_str(), DESK)?;
-    expect_each(&rt, alloc, text.as_str(), PARTIES)?;
-    expect_each(&rt, alloc, text.as_str(), DEVICES)?;
-    for (from, to) in ALLOWED {
+// Each change of the sample leaves valid tables.
+fn allow_each(
+    rt: &impl Abort,
+    alloc: Global,
+    text: &str,
+    cases: &[(&str, &str)],
+) -> Result<(), AllocError> {
+    for (from, to) in cases {
         assert!(rt; text.contains(*from), "{from}");
         let changed = text.replacen(alloc, *from, *to, 1)?;
         assert!(rt; fault(alloc, changed.as_bytes())?.is_none(), "{to}");
     }
+    Ok(())
+}
+
+#[test]
+fn faults_of_the_desk(rt: HostRuntime) -> Result<(), Fail> {
+    let alloc = rt.alloc();
+    let text = sample(alloc)?;
+    expect_each(&rt, alloc, text.as_str(), DESK)?;
+    Ok(())
+}
+
+#[test]
+fn faults_of_parties(rt: HostRuntime) -> Result<(), Fail> {
+    let alloc = rt.alloc();
+    let text = sample(alloc)?;
+    expect_each(&rt, alloc, text.as_str(), PARTIES)?;
+    Ok(())
+}
+
+#[test]
+fn faults_of_devices(rt: HostRuntime) -> Result<(), Fail> {
+    let alloc = rt.alloc();
+    let text = sample(alloc)?;
+    expect_each(&rt, alloc, text.as_str(), DEVICES)?;
+    Ok(())
+}
+
+#[test]
+fn allowed_values(rt: HostRuntime) -> Result<(), Fail> {
+    let alloc = rt.alloc();
+    let text = sample(alloc)?;
+    allow_each(&rt, alloc, text.as_str(), ALLOWED)?;
     Ok(())
 }
 
@@ -128,20 +160,38 @@ const KINDS: &[(&str, u32, &str)] = &[
 ];
 
 #[test]
-fn sections(rt: HostRuntime) -> Result<(), Fail> {
+fn short_texts(rt: HostRuntime) -> Result<(), Fail> {
     let alloc = rt.alloc();
     for (text, number, path) in SHORT {
         expect(&rt, alloc, *text, *number, *path)?;
     }
+    Ok(())
+}
+
+#[test]
+fn counts_of_rows(rt: HostRuntime) -> Result<(), Fail> {
+    let alloc = rt.alloc();
     for (line, count, number, path) in COUNTS {
         let text = with_lines(alloc, *line, *count)?;
         expect(&rt, alloc, text.as_bytes(), *number, *path)?;
     }
+    Ok(())
+}
+
+#[test]
+fn kinds_of_sections(rt: HostRuntime) -> Result<(), Fail> {
+    let alloc = rt.alloc();
     let (desk, _) = SECTIONS.split_once("[[network]]").ok_or("a network")?;
     for (section, number, path) in KINDS {
         let text = format!(in alloc; "{section}\n{desk}")?;
         expect(&rt, alloc, text.as_bytes(), *number, *path)?;
     }
+    Ok(())
+}
+
+#[test]
+fn the_longest_text(rt: HostRuntime) -> Result<(), Fail> {
+    let alloc = rt.alloc();
     let mut text = sample(alloc)?.into_bytes();
     while text.len() < 4194304 {
         text.push(b'\n')?;
@@ -152,54 +202,63 @@ fn sections(rt: HostRuntime) -> Result<(), Fail> {
     Ok(())
 }
 
-#[test]
-fn look_ups(rt: HostRuntime) -> Result<(), Fail> {
-    let alloc = rt.alloc();
+// The tables of the sample.
+fn sample_tables(alloc: Global) -> Result<Tables, Fail> {
     let text = sample(alloc)?;
-    let Ok(tables) = read_tables(alloc, text.as_bytes()) else {
-        return Err(Fail::from("the sample is refused"));
-    };
-    let counts = [
-        tables.devices().len(),
-        tables.networks().len(),
-        tables.applications().len(),
-        tables.gateways().len(),
-        tables.agreements().len(),
-        tables.join_servers().len(),
-    ];
-    assert_eq!(rt; counts, [40, 3, 1, 2, 2, 1]);
-    assert_eq!(rt; tables.desk().lifetime_s, 31536000);
-    assert_eq!(rt; tables.desk().ask_s, 30);
-    assert_eq!(rt; tables.desk().dl_settings, 0x80);
-    assert!(rt; tables.desk().cf_list.is_none());
+    match read_tables(alloc, text.as_bytes()) {
+        Ok(tables) => Ok(tables),
+        Err(_) => Err(Fail::from("the sample is refused")),
+    }
+}
+
+#[test]
+fn counts_and_defaults(rt: HostRuntime) -> Result<(), Fail> {
+    let tables = sample_tables(rt.alloc())?;
+    assert_eq!(rt; tables.devices().len(), 40);
+    assert_eq!(rt; tables.networks().len(), 3);
+    assert_eq!(rt; tables.applications().len(), 1);
+    assert_eq!(rt; tables.gateways().len(), 2);
+    assert_eq!(rt; tables.agreements().len(), 2);
+    assert_eq!(rt; tables.join_servers().len(), 1);
+    let desk = tables.desk();
+    assert_eq!(rt; desk.lifetime_s, 31536000);
+    assert_eq!(rt; desk.ask_s, 30);
+    assert_eq!(rt; desk.dl_settings, 0x80);
+    assert!(rt; desk.cf_list.is_none());
+    Ok(())
+}
+
+#[test]
+fn parties(rt: HostRuntime) -> Result<(), Fail> {
+    let tables = sample_tables(rt.alloc())?;
     let net = NetId::new(0x600005).ok_or("a NetID")?;
     let agreement = tables.agreement(net).ok_or("an agreement")?;
     assert_eq!(rt; agreement.passive, Passive::Stateless);
-    assert_eq!(rt; (agreement.passive_s, agreement.handover_s), (600, 3600));
-    assert_eq!(rt;
-        tables.network(net).ok_or("a network")?.kek_label.as_slice(),
-        "net-605".as_bytes(),
-    );
+    assert_eq!(rt; agreement.passive_s, 600);
+    assert_eq!(rt; agreement.handover_s, 3600);
+    let network = tables.network(net).ok_or("a network")?;
+    assert_eq!(rt; network.kek_label.as_slice(), b"net-605".as_slice());
     assert!(rt; tables.gateway(Eui(0xb000000000000002)));
     assert!(rt; !tables.gateway(Eui(0xb000000000000003)));
     assert!(rt; tables.join_server(Eui(0x70b3d57ed0000002)).is_some());
     assert!(rt; tables.application(Eui(0xa000000000000001)).is_some());
+    Ok(())
+}
+
+#[test]
+fn devices(rt: HostRuntime) -> Result<(), Fail> {
+    let tables = sample_tables(rt.alloc())?;
     let (place, row) = tables.device(Eui(0x70b3d57ed0001021)).ok_or("a device")?;
-    assert_eq!(rt; (place, row.roaming, row.carry_app), (32, true, false));
-    assert_eq!(rt;
-        tables.application_of(place).kek_label.as_slice(),
-        "app-1".as_bytes()
-    );
-    assert_eq!(rt;
-        tables
-            .home_network(place)
-            .ok_or("a home")?
-            .kek_label
-            .as_slice(),
-        "net-14".as_bytes(),
-    );
-    assert!(rt; tables.home_network(31).is_none());
-    let keys = tables.root_keys(alloc)?;
-    assert_eq!(rt; (keys[32].nwk, keys[32].app), ([33; 16], [161; 16]));
+    assert_eq!(rt; place, 32);
+    assert!(rt; row.roaming && !row.carry_app);
+    let application = tables.application_of(place);
+    assert_eq!(rt; application.kek_label.as_slice(), b"app-1".as_slice());
+    let home = tables.home_network(place).ok_or("a home")?;
+    assert_eq!(rt; home.kek_label.as_slice(), b"net-14".as_slice());
+    assert!(rt; tables.device(Eui(0x70b3d57ed0001099)).is_none());
+    let keys = tables.root_keys(rt.alloc())?;
+    let of_device = keys.get(32).ok_or("keys")?;
+    assert_eq!(rt; of_device.nwk, [33; 16]);
+    assert_eq!(rt; of_device.app, [161; 16]);
     Ok(())
 }

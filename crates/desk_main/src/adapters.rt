@@ -1,3 +1,4 @@
+ghost use Rattle.std.specs.Prelude.{◌≤◌};
 ghost use Rattle.wire_ids.specs.Causes.{Rose};
 
 use disk_model::{Failed, Sink, Source};
@@ -5,7 +6,8 @@ use std::io::{Read, Write};
 
 // Counts a fault. The count stands still at its type's end.
 fn failed(faults: &mut u64) -> Failed
-    ensures { Rose faults.old faults.new }
+    ensures later { faults.old ≤ faults.new }
+    ensures rose { Rose faults.old faults.new }
 {
     *faults = faults.saturating_add(1);
     Failed

@@ -193,7 +193,7 @@ fn kinds_of_sections(rt: HostRuntime) -> Result<(), Fail> {
 fn the_longest_text(rt: HostRuntime) -> Result<(), Fail> {
     let alloc = rt.alloc();
     let mut text = sample(alloc)?.into_bytes();
-    while text.len() < 4194304 {
+    for _ in text.len()..4194304 {
         text.push(b'\n')?;
     }
     assert!(rt; fault(alloc, text.as_slice())?.is_none());

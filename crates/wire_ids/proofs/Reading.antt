@@ -1,14 +1,16 @@
 -- Digits that are read again, and texts that aren't.
-use Rattle.std.proofs.Common.{◌≡◌, ◌≢◌, ℕ, zero, suc, ◌+◌, ◌*◌, ◌/◌, ◌%◌, ◌^◌, ◌<◌, ◌⊎◌, inl, inr, List, ◌∷◌, length, slice_index, None, Result, Ok, Err, lit<, refl, sym, ap, subst, ◌∙◌, arith}
+use Rattle.std.proofs.Common.{◌≡◌, ◌≢◌, ℕ, zero, suc, ◌+◌, ◌*◌, ◌/◌, ◌%◌, ◌^◌, ◌<◌, ◌⊎◌, inl, inr, true, List, ◌∷◌, length, take, slice_index, None, Result, Ok, Err, lit<, refl, sym, ap, subst, ◌∙◌, arith, get_or-take, length-take-le}
+use Rattle.std.specs.List.{AllPass}
 use Rattle.std.specs.Result.{result_map_both}
-use Rattle.std.proofs.lemmas.Bool.{cases_eq}
+use Rattle.std.proofs.lemmas.List.Elements.{All-get_or}
+use Rattle.std.proofs.lemmas.Bool.{cases_eq, cases_lt}
 use Rattle.std.proofs.lemmas.Nat.{from_be_bytes-to_be_bytes_4, from_be_bytes-to_be_bytes_8}
 use Rattle.std.specs.Int.{byte_at, bytes_high_first}
 use Rattle.std.proofs.lemmas.Bool.Decides.{nat_tests}
-use Rattle.hex.specs.Hex.{IsBytes, decode_of, decode_sized, encode_lower, encode_with, hex_digit_value, lower_digits}
+use Rattle.hex.specs.Hex.{IsBytes, decode_of, decode_sized, encode_lower, encode_with, hex_digit_value, is_hex_digit, lower_digits}
 use Rattle.hex.specs.declared.error.FromHexError.{FromHexError}
 use Rattle.hex.specs.declared.error.FromHexError.TheVariants.{InvalidStringLength, OddLength}
-use Rattle.hex.proofs.HexLemmas.{IsDigits-lower_digits, decode_of-err, decode_sized-encode_lower, decode_sized-odd, decode_sized-other, decode_sized-twice}
+use Rattle.hex.proofs.HexLemmas.{IsDigits-lower_digits, decode_of-err, decode_of-ok, decode_sized-encode_lower, decode_sized-odd, decode_sized-other, decode_sized-twice}
 use Rattle.wire_ids.specs.Digits.{IsFirstBad, addr_digits, eui_digits, fault_of, id_bytes, net_digits, read_addr, read_eui, read_net, without_prefix}
 use Rattle.wire_ids.specs.Numbers.{net_bytes, net_number, wire_bytes, wire_number}
 use Rattle.wire_ids.specs.declared.address.DevAddr.{DevAddr}
@@ -107,19 +109,61 @@ digit_place s d got place h fault =
           subst P same (bad.2, bad.3, bad.4)
     ]
 
-pub first_bad : (n place : ℕ) (text : List ℕ) → id_bytes n text ≡ Err (BadDigit place) → IsFirstBad (without_prefix text) place
+pub first_bad : (n place : ℕ) (text : List ℕ) → id_bytes n text ≡ Err (BadDigit place)
+    → (length (without_prefix text) ≡ 2 * n) × IsFirstBad (without_prefix text) place
 unfolding id_bytes
 first_bad n place text h =
     let s : List ℕ = without_prefix text in
     let m = mapped_err (decode_sized s n) (length s) (BadDigit place) h in
     elim (sized_err s n m.0 m.1) [
-      | inl read ↦ digit_place s m.0 (length s) place read.1 m.2
+      | inl read ↦ (read.0, digit_place s m.0 (length s) place read.1 m.2)
       | inr other ↦
           elim other.1 [
             | inl e ↦ let f = ap (fault_of (length s)) e in let g = m.2 in cc
             | inr e ↦ let f = ap (fault_of (length s)) e in let g = m.2 in cc
           ]
     ]
+
+good_before : (s : List ℕ) (j k : ℕ) → j < k → k < length s → AllPass is_hex_digit (take k s) → is_hex_digit (slice_index s j) ≡ true
+good_before s j k less within all =
+    let len = length-take-le k s (omega arith) in
+    let inside : j < length (take k s) = omega (arith, len) in
+    ap is_hex_digit (sym (get_or-take k s j 0 less)) ∙ All-get_or (λ c. is_hex_digit c ≡ true) (take k s) j 0 inside all
+
+-- a text has one first bad place
+same_place : (s : List ℕ) (j k : ℕ) → IsFirstBad s j → IsFirstBad s k → j ≡ k
+same_place s j k one other =
+    elim (cases_lt j k) [
+      | inl less ↦ let good = good_before s j k less other.0 other.2 in let bad = one.1 in cc
+      | inr most ↦
+          elim (cases_lt k j) [
+            | inl less ↦ let good = good_before s k j less one.0 one.2 in let bad = other.1 in cc
+            | inr least ↦ omega arith
+          ]
+    ]
+
+-- what an even number of bytes with a bad one is read as
+refused_digit : (s : List ℕ) (n place : ℕ) (r : Result (List ℕ) FromHexError) → decode_of s ≡ r → length s ≡ 2 * n → IsFirstBad s place
+    → result_map_both (λ (bytes : List ℕ). bytes) (fault_of (length s)) r ≡ Err (BadDigit place)
+refused_digit s n place (Ok bytes) h len bad =
+    let good = All-get_or (λ c. is_hex_digit c ≡ true) s place 0 bad.0 (decode_of-ok s bytes h).1 in
+    let no = bad.1 in
+    cc
+refused_digit s n place (Err d) h len bad =
+    elim (decode_of-err s d h) [
+      | inl odd ↦ let o = odd.0 in absurd (omega arith)
+      | inr found ↦
+          let same = same_place s found.0 place (found.2, found.3, found.4) bad in
+          let back : 0 + found.0 ≡ place = omega (arith, same) in
+          ap (λ (e : IdFault). Err e) (ap (fault_of (length s)) found.1 ∙ ap (λ (k : ℕ). BadDigit k) back)
+    ]
+
+pub bad_first : (n place : ℕ) (text : List ℕ) → (length (without_prefix text) ≡ 2 * n) × IsFirstBad (without_prefix text) place
+    → id_bytes n text ≡ Err (BadDigit place)
+unfolding id_bytes
+bad_first n place text h =
+    let s : List ℕ = without_prefix text in
+    rw (decode_sized-twice s n h.0) (refused_digit s n place (decode_of s) refl h.0 h.1)
 
 length_fault : (s : List ℕ) (d : FromHexError) (n got : ℕ) → length s ≡ 2 * n → decode_of s ≡ Err d → fault_of (length s) d ≡ BadLength got → ⊥
 length_fault s d n got len h fault =

@@ -1,5 +1,6 @@
-ghost use Rattle.std.specs.Prelude.{◌≡◌, ◌<◌, ◌≤◌, ◌+◌, ◌*◌, ◌%◌, ◌^◌, ◌↔◌, IsTrue, option_map};
-ghost use Rattle.wire_ids.specs.Addresses.{Matches, address_of, base_of, nwk_bits, free_bits, prefix, room_of, type_of};
+ghost use Rattle.std.specs.Prelude.{◌≡◌, ◌<◌, ◌≤◌, ◌+◌, ◌*◌, ◌^◌, ◌↔◌, IsTrue, option_map};
+ghost use Rattle.wire_ids.specs.Addresses.{Matches, address_of, base_of, room_of};
+ghost use Rattle.wire_ids.specs.Addresses.{free_bits, nwk_bits, prefix};
 ghost use Rattle.wire_ids.specs.declared.address.DevAddr as dev_addr;
 ghost use Rattle.std.specs.Int.{w32, from_le_bytes, to_le_bytes};
 ghost use Rattle.wire_ids.specs.Digits.{addr_digits, read_addr};
@@ -53,6 +54,22 @@ struct Layout {
     room: u32,
 }
 
+impl Layout {
+    fn new(prefix: u32, id_bits: u32, room_bits: u32) -> Layout
+        requires id { id_bits < 32 }
+        requires room { room_bits < 32 }
+        ensures prefix { result.prefix ≡ prefix }
+        ensures ids { result.ids ≡ 2 ^ id_bits }
+        ensures room { result.room ≡ 2 ^ room_bits }
+    {
+        Layout {
+            prefix,
+            ids: 1 << id_bits,
+            room: 1 << room_bits,
+        }
+    }
+}
+
 fn layout_of(kind: u32) -> Layout
     requires { kind < 8 }
     ensures prefix { result.prefix ≡ prefix kind }
@@ -62,46 +79,14 @@ fn layout_of(kind: u32) -> Layout
     ensures fits { result.prefix + result.ids * result.room ≤ 2 ^ 32 }
 {
     match kind {
-        0 => Layout {
-            prefix: 0,
-            ids: 64,
-            room: 1 << 25,
-        },
-        1 => Layout {
-            prefix: 0x80000000,
-            ids: 64,
-            room: 1 << 24,
-        },
-        2 => Layout {
-            prefix: 0xc0000000,
-            ids: 512,
-            room: 1 << 20,
-        },
-        3 => Layout {
-            prefix: 0xe0000000,
-            ids: 2048,
-            room: 1 << 17,
-        },
-        4 => Layout {
-            prefix: 0xf0000000,
-            ids: 4096,
-            room: 1 << 15,
-        },
-        5 => Layout {
-            prefix: 0xf8000000,
-            ids: 8192,
-            room: 1 << 13,
-        },
-        6 => Layout {
-            prefix: 0xfc000000,
-            ids: 32768,
-            room: 1 << 10,
-        },
-        _ => Layout {
-            prefix: 0xfe000000,
-            ids: 131072,
-            room: 1 << 7,
-        },
+        0 => Layout::new(0, 6, 25),
+        1 => Layout::new(0x80000000, 6, 24),
+        2 => Layout::new(0xc0000000, 9, 20),
+        3 => Layout::new(0xe0000000, 11, 17),
+        4 => Layout::new(0xf0000000, 12, 15),
+        5 => Layout::new(0xf8000000, 13, 13),
+        6 => Layout::new(0xfc000000, 15, 10),
+        _ => Layout::new(0xfe000000, 17, 7),
     }
 }
 

@@ -1,9 +1,10 @@
 //! Laws of the definitions, that speak of all identifiers.
 
 ghost use Rattle.std.specs.Prelude.{◌≡◌, ◌≢◌, ◌<◌, ◌*◌, ◌^◌, ◌↔◌, ℕ, List, length, Ok, Err};
-ghost use Rattle.std.specs.Int.{w32, w64};
 ghost use Rattle.wire_ids.specs.Addresses.{HasSameIdentifier, SharesAnAddress};
-ghost use Rattle.wire_ids.specs.Digits.{IsFirstBad, addr_digits, eui_digits, id_bytes, net_digits, read_addr, read_eui, read_net, without_prefix};
+ghost use Rattle.wire_ids.specs.Digits.{IsFirstBad, id_bytes, without_prefix};
+ghost use Rattle.wire_ids.specs.Digits.{addr_digits, eui_digits, net_digits};
+ghost use Rattle.wire_ids.specs.Digits.{read_addr, read_eui, read_net};
 ghost use Rattle.wire_ids.specs.Numbers.{wire_bytes, wire_number};
 ghost use Rattle.wire_ids.specs.declared.address.DevAddr.{DevAddr};
 ghost use Rattle.wire_ids.specs.declared.eui.Eui.{Eui};
@@ -21,13 +22,13 @@ pub fn wire_bytes_are_read()
     ensures { (n : ℕ) → n < 2 ^ 24 → wire_number (wire_bytes n) ≡ n }
 {}
 
-/// A text is refused for the number of its digits exactly where it is another one, and otherwise
-/// for its first byte that is no digit.
+/// A text is refused for its length exactly where it has another number of digits, and at a place
+/// exactly where it has the right number and its first byte that is no digit stands there.
 pub fn refusals_of_digits()
     ensures length { (n got : ℕ) (text : List ℕ) → (id_bytes n text ≡ Err (BadLength got))
         ↔ ((length (without_prefix text) ≡ got) × (got ≢ 2 * n)) }
-    ensures digit { (n place : ℕ) (text : List ℕ) → id_bytes n text ≡ Err (BadDigit place)
-        → IsFirstBad (without_prefix text) place }
+    ensures digit { (n place : ℕ) (text : List ℕ) → (id_bytes n text ≡ Err (BadDigit place))
+        ↔ ((length (without_prefix text) ≡ 2 * n) × IsFirstBad (without_prefix text) place) }
 {}
 
 /// Two networks share an address exactly where their types and their NwkIDs are equal (TS002).

@@ -42,6 +42,7 @@ impl Nonce24 {
     {
         self.number
     }
+
     /// The JoinNonce whose number has these bytes, the highest first.
     pub fn from_be_bytes(bytes: [u8; 3]) -> Nonce24
         ensures { result ≡ net_number bytes }

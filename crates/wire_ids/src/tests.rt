@@ -2,7 +2,7 @@ use crate::{DevAddr, Eui, IdFault, NetId, Nonce24, Text, address_of, net_matches
 use std::process::Abort;
 use std::test::Fail;
 
-fn expect(rt: &impl Abort, net: u32, n: u32, want: Option<DevAddr>) {
+fn expect_address(rt: &impl Abort, net: u32, n: u32, want: Option<DevAddr>) {
     match NetId::new(net) {
         Some(net) => assert_eq!(rt; address_of(net, n), want),
         None => assert!(rt; false),
@@ -10,20 +10,30 @@ fn expect(rt: &impl Abort, net: u32, n: u32, want: Option<DevAddr>) {
 }
 
 #[test]
-fn addresses(rt: HostRuntime) -> Result<(), Fail> {
-    expect(&rt, 0x000013, 1, Some(DevAddr(0x26000001)));
-    expect(&rt, 0x600005, 0, Some(DevAddr(0xe00a0000)));
-    expect(&rt, 0xe00001, 127, Some(DevAddr(0xfe0000ff)));
-    expect(&rt, 0xe00001, 128, None);
+fn a_network_has_the_addresses_that_its_type_leaves(rt: HostRuntime) -> Result<(), Fail> {
+    expect_address(&rt, 0x000013, 1, Some(DevAddr(0x26000001)));
+    expect_address(&rt, 0x600005, 0, Some(DevAddr(0xe00a0000)));
+    expect_address(&rt, 0xe00001, 127, Some(DevAddr(0xfe0000ff)));
+    expect_address(&rt, 0xe00001, 128, None);
+    Ok(())
+}
+
+#[test]
+fn an_address_matches_its_own_network(rt: HostRuntime) -> Result<(), Fail> {
     let net = NetId::new(0x14).ok_or("bits")?;
     assert!(rt; net_matches(DevAddr(0x28000001), net));
     assert!(rt; !net_matches(DevAddr(0x26000001), net));
+    Ok(())
+}
+
+#[test]
+fn a_net_id_has_no_more_than_24_bits(rt: HostRuntime) -> Result<(), Fail> {
     assert_eq!(rt; NetId::new(0x1000000), None);
     Ok(())
 }
 
 #[test]
-fn digits(rt: HostRuntime) -> Result<(), Fail> {
+fn an_identifier_is_read_or_refused_at_its_first_fault(rt: HostRuntime) -> Result<(), Fail> {
     for (text, want) in [
         ("70b3d57ed0001021", Ok(Eui(0x70b3d57ed0001021))),
         ("0x70b3d57ed0001021", Ok(Eui(0x70b3d57ed0001021))),
@@ -62,7 +72,7 @@ fn digits(rt: HostRuntime) -> Result<(), Fail> {
 }
 
 #[test]
-fn wire_bytes(rt: HostRuntime) -> Result<(), Fail> {
+fn digits_have_the_highest_byte_first_and_frames_the_lowest(rt: HostRuntime) -> Result<(), Fail> {
     let eui = Eui(0x70b3d57ed0001021);
     assert_eq!(rt; &eui.to_hex(), b"70b3d57ed0001021");
     assert_eq!(rt;
@@ -91,7 +101,7 @@ fn is_send<T: Send>(value: T) -> T {
 }
 
 #[test]
-fn texts(rt: HostRuntime) -> Result<(), Fail> {
+fn a_text_can_be_sent_and_equals_one_of_the_same_bytes(rt: HostRuntime) -> Result<(), Fail> {
     let text = is_send(Text::of_slice(rt.alloc(), b"desk")?);
     assert_eq!(rt; text, Text::new(b"desk".to_vec(rt.alloc())?));
     assert!(rt; !text.is_empty());

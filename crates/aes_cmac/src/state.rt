@@ -7,7 +7,9 @@ ghost use Rattle.aes_cmac.specs.Columns.{bytes_of};
 #[inline(always)]
 fn word_at(b: &[u8], i: usize) -> u32
     requires { i + 4 ≤ length b.now }
-    ensures { to_be_bytes w32 result ≡ slice_index b.now i ∷ slice_index b.now (i + 1) ∷ slice_index b.now (i + 2) ∷ slice_index b.now (i + 3) ∷ [] }
+    ensures { to_be_bytes w32 result
+        ≡ slice_index b.now i ∷ slice_index b.now (i + 1) ∷ slice_index b.now (i + 2)
+        ∷ slice_index b.now (i + 3) ∷ [] }
 {
     u32::from_be_bytes([b[i], b[i + 1], b[i + 2], b[i + 3]])
 }

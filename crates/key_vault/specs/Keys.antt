@@ -1,13 +1,10 @@
 -- The keys that are derived from a device's root keys (LoRaWAN 1.1). Numbers are little-endian, as in frames.
-use Rattle.std.specs.Prelude.{ℕ, ◌/◌, ◌%◌, List, [], ◌∷◌, ◌++◌, replicate}
+use Rattle.std.specs.Prelude.{ℕ, List, ◌∷◌, ◌++◌, replicate}
 use Rattle.std.specs.Int.{w16, w64, to_le_bytes}
 use Rattle.aes_cmac.specs.Aes.{encrypted}
+use Rattle.wire_ids.specs.Numbers.{wire_bytes}
 use Rattle.wire_ids.specs.declared.keys.Seed.{Seed}
 use Rattle.wire_ids.specs.declared.keys.SessionKeys.{SessionKeys}
-
--- the three bytes of a number of 24 bits, the lowest first
-abbrev pub le24 : ℕ → List ℕ
-le24 n = n % 256 ∷ n / 256 % 256 ∷ n / 65536 % 256 ∷ []
 
 -- the block of a key that the DevEUI names: its letter, the DevEUI and zeros (6.1.1.4)
 unfoldable pub device_block : ℕ → ℕ → List ℕ
@@ -15,7 +12,7 @@ device_block letter dev_eui = letter ∷ to_le_bytes w64 dev_eui ++ replicate 7 
 
 -- the block of a session key: its letter, the JoinNonce, the JoinEUI, the counter and zeros (6.2.3)
 unfoldable pub session_block : ℕ → Seed → List ℕ
-session_block letter seed = letter ∷ le24 seed.nonce ++ (to_le_bytes w64 seed.join_eui.0 ++ (to_le_bytes w16 seed.counter ++ replicate 2 0))
+session_block letter seed = letter ∷ wire_bytes seed.nonce ++ (to_le_bytes w64 seed.join_eui.0 ++ (to_le_bytes w16 seed.counter ++ replicate 2 0))
 
 -- JSIntKey (6.1.1.4)
 unfoldable pub js_int_key : List ℕ → ℕ → List ℕ

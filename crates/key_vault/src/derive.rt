@@ -1,5 +1,6 @@
 ghost use Rattle.std.specs.Prelude.{◌≡◌};
-ghost use Rattle.key_vault.specs.Keys.{js_int_key, js_enc_key, network_keys, app_session_key, device_block, session_block};
+ghost use Rattle.key_vault.specs.Keys.{js_int_key, js_enc_key, network_keys, app_session_key};
+ghost use Rattle.key_vault.specs.Keys.{device_block, session_block};
 
 use aes_cmac::RoundKeys;
 use wire_ids::{Eui, Seed, SessionKeys};
@@ -9,10 +10,10 @@ use wire_ids::{Eui, Seed, SessionKeys};
 pub(crate) fn device_block(letter: u8, dev: Eui) -> [u8; 16]
     ensures { result ≡ device_block letter dev.0 }
 {
-    let d = dev.0.to_le_bytes();
-    [
-        letter, d[0], d[1], d[2], d[3], d[4], d[5], d[6], d[7], 0, 0, 0, 0, 0, 0, 0,
-    ]
+    let mut block = [0; 16];
+    block[0] = letter;
+    block[1..9].copy_from_slice(&dev.to_wire());
+    block
 }
 
 // The block of a session key.
@@ -20,12 +21,12 @@ pub(crate) fn device_block(letter: u8, dev: Eui) -> [u8; 16]
 pub(crate) fn session_block(letter: u8, seed: &Seed) -> [u8; 16]
     ensures { result ≡ session_block letter seed.now }
 {
-    let n = seed.nonce.get().to_le_bytes();
-    let e = seed.join_eui.0.to_le_bytes();
-    let c = seed.counter.to_le_bytes();
-    [
-        letter, n[0], n[1], n[2], e[0], e[1], e[2], e[3], e[4], e[5], e[6], e[7], c[0], c[1], 0, 0,
-    ]
+    let mut block = [0; 16];
+    block[0] = letter;
+    block[1..4].copy_from_slice(&seed.nonce.to_wire());
+    block[4..12].copy_from_slice(&seed.join_eui.to_wire());
+    block[12..14].copy_from_slice(&seed.counter.to_le_bytes());
+    block
 }
 
 /// JSIntKey of a device under its NwkKey (LoRaWAN 1.1, 6.1.1.4).

@@ -110,7 +110,7 @@ fn expect_calls<E: BlockFn, D: BlockFn>(
 }
 
 #[test]
-fn key_rings(rt: HostRuntime) -> Result<(), Fail> {
+fn a_vault_over_key_rings_has_the_keys(rt: HostRuntime) -> Result<(), Fail> {
     let keys = table(rt.alloc())?;
     let ring = KeyRing::new(rt.alloc(), &keys).or(Err("memory"))?;
     let other = KeyRing::new(rt.alloc(), &keys).or(Err("memory"))?;
@@ -140,7 +140,7 @@ fn round_keys(keys: &Vec<RootKeys>, i: u32, kind: RootKind) -> RoundKeys
 }
 
 #[test]
-fn other_closures(rt: HostRuntime) -> Result<(), Fail> {
+fn a_vault_over_other_closures_has_the_same_keys(rt: HostRuntime) -> Result<(), Fail> {
     let keys = table(rt.alloc())?;
     let own = keys.clone()?;
     let other = keys.clone()?;
@@ -158,7 +158,7 @@ fn other_closures(rt: HostRuntime) -> Result<(), Fail> {
 }
 
 #[test]
-fn derivations(rt: HostRuntime) -> Result<(), Fail> {
+fn keys_are_derived_from_a_root_key_at_hand(rt: HostRuntime) -> Result<(), Fail> {
     let nwk = NWK_KEY.to_be_bytes();
     let seed = seed().ok_or("seed")?;
     assert_eq!(rt; number(js_int_of(&nwk, DEVICE)), JS_INT);

@@ -1,10 +1,12 @@
 ghost use Rattle.std.specs.Prelude.{◌≡◌, ◌<◌, ◌≤◌, List, length, vec_len, map};
 ghost use Rattle.aes_cmac.specs.Aes.{encrypted, decrypted};
 ghost use Rattle.key_vault.specs.Keys.{js_int_key, js_enc_key, network_keys, app_session_key};
-ghost use Rattle.key_vault.specs.Table.{Serves, Encrypts, Decrypts, root_key, nwk_at, app_at, accept_key};
+ghost use Rattle.key_vault.specs.Table.{Serves, Encrypts, Decrypts, root_key, nwk_at, app_at};
+ghost use Rattle.key_vault.specs.Table.{accept_key};
 
 use crate::block_fn::{BlockFn, RootKind};
 use crate::derive::{device_block, session_block};
+use crate::key_ring::KeyRing;
 use aes_cmac::RoundKeys;
 use std::marker::Model;
 use std::snapshot::Snapshot;
@@ -126,7 +128,8 @@ impl<E: BlockFn, D: BlockFn> Vault<E, D> {
     #[tactic(auto, unfolding(crate::specs::Table::accept_key))]
     pub fn seal(&self, i: u32, dev: Eui, rejoin: bool, blocks: &mut [[u8; 16]])
         requires { i < length self.now }
-        ensures { blocks.new ≡ map (decrypted (accept_key (nwk_at self.now i) dev.0 rejoin)) blocks.old }
+        ensures { blocks.new
+            ≡ map (decrypted (accept_key (nwk_at self.now i) dev.0 rejoin)) blocks.old }
     {
         if rejoin {
             seal_rejoin(&RoundKeys::new(&self.js_enc(i, dev)), blocks);
@@ -147,7 +150,8 @@ fn seal_rejoin(keys: &RoundKeys, blocks: &mut [[u8; 16]])
 
 fn is_send<T: Send>() {}
 
-// A vault may be handed to another thread where its two functions may.
-fn vault_is_send<E: BlockFn + Send, D: BlockFn + Send>() {
+// Key rings may be handed to another thread, and a vault where its two functions may.
+fn sends<E: BlockFn + Send, D: BlockFn + Send>() {
+    is_send::<KeyRing>();
     is_send::<Vault<E, D>>();
 }

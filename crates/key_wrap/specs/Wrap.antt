@@ -1,4 +1,4 @@
--- AES key wrap (RFC 3394) of a key of 16 bytes, by shifting registers: A of 8 bytes, and R1 and R2 of the
+-- AES key wrap (RFC 3394) of a key of 16 bytes, by shifting registers: A of 8 bytes, and R[1] and R[2] of the
 -- n = 2 halves of 8 bytes. Section numbers are the RFC's.
 use Rattle.std.specs.Prelude.{ℕ, zero, suc, List, ◌++◌, take, drop, replicate, bit_xor}
 use Rattle.std.specs.Int.{w64, from_be_bytes, to_be_bytes}

@@ -38,8 +38,10 @@ pub fn wrap(kek: &[u8; 16], key: &[u8; 16]) -> [u8; 24]
 /// where the registers don't end as they would begin (RFC 3394, 2.2.2 and 2.2.3).
 pub fn unwrap(kek: &[u8; 16], wrapped: &[u8; 24]) -> Option<[u8; 16]>
     ensures wraps { IfSome result (λ key. wrapped_key kek.now key ≡ wrapped.now) }
-    ensures undoes { (key : List ℕ) → IsBlock key → wrapped_key kek.now key ≡ wrapped.now → result ≡ Some key }
-    ensures none { (result ≡ None) ↔ ((key : List ℕ) → IsBlock key → wrapped_key kek.now key ≡ wrapped.now → ⊥) }
+    ensures undoes { (key : List ℕ) → IsBlock key → wrapped_key kek.now key ≡ wrapped.now
+        → result ≡ Some key }
+    ensures none { (result ≡ None) ↔ ((key : List ℕ) → IsBlock key
+        → wrapped_key kek.now key ≡ wrapped.now → ⊥) }
 {
     let keys = RoundKeys::new(kek);
     let mut registers = Registers::of(wrapped);

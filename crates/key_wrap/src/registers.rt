@@ -4,7 +4,7 @@ ghost use Rattle.key_wrap.specs.Wrap.{xor_step, step, unstep, registers_of, regi
 
 use aes_cmac::RoundKeys;
 
-// A, and the halves R1 and R2, each 64 bits, the highest byte first.
+// A, and the halves R[1] and R[2], each 64 bits, the highest byte first.
 #[derive(Clone, Copy)]
 pub(crate) struct Registers {
     pub(crate) a: [u8; 8],
@@ -89,7 +89,7 @@ impl Registers {
         text
     }
 
-    // A pass: the two steps that follow `steps` steps, the first at R1 and the second at R2.
+    // A pass: the two steps that follow `steps` steps, the first at R[1] and the second at R[2].
     #[tactic(auto, unfolding(crate::specs::Wrap::step))]
     pub(crate) fn pass(self, keys: &RoundKeys, steps: u64) -> Registers
         requires { steps < 12 }

@@ -2,7 +2,7 @@ use crate::{unwrap, wrap};
 use std::test::Fail;
 
 #[test]
-fn example(rt: HostRuntime) -> Result<(), Fail> {
+fn a_wrapped_key_unwraps_unless_a_bit_is_changed(rt: HostRuntime) -> Result<(), Fail> {
     let kek = 0x000102030405060708090a0b0c0d0e0fu128.to_be_bytes();
     let key = 0x00112233445566778899aabbccddeeffu128.to_be_bytes();
     let mut wrapped = [

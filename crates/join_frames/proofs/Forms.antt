@@ -4,7 +4,7 @@ use Rattle.std.proofs.lemmas.List.{take-append-drop, take_all, drop-drop}
 use Rattle.std.proofs.Math.Seq.{drop-cons}
 use Rattle.std.proofs.lemmas.Nat.{from_le_bytes-to_le_bytes_2, from_le_bytes-to_le_bytes_8}
 use Rattle.std.specs.Int.{w16, w64, to_le_bytes, from_le_bytes}
-use Rattle.key_vault.specs.Keys.{le24}
+use Rattle.wire_ids.specs.Numbers.{wire_bytes}
 use Rattle.wire_ids.specs.declared.eui.Eui.{Eui}
 use Rattle.join_frames.specs.JoinForms.{JoinForm, join_fields, rejoin02_fields, rejoin1_fields}
 use Rattle.join_frames.specs.declared.join_up.JoinUp.{JoinUp}
@@ -19,15 +19,15 @@ same_eui a b p q e =
     ap (λ (n : ℕ). let eui : Eui = record { 0 = n } in eui) same
 
 -- the number of three bytes, the lowest first
-of_le24 : List ℕ → ℕ
-of_le24 s = get_or s 0 0 + 256 * get_or s 1 0 + 65536 * get_or s 2 0
+of_wire : List ℕ → ℕ
+of_wire s = get_or s 0 0 + 256 * get_or s 1 0 + 65536 * get_or s 2 0
 
-of_le24-le24 : (n : ℕ) → n < 2 ^ 24 → of_le24 (le24 n) ≡ n
-unfolding of_le24
-of_le24-le24 n h = omega arith
+of_wire-wire_bytes : (n : ℕ) → n < 2 ^ 24 → of_wire (wire_bytes n) ≡ n
+unfolding of_wire
+of_wire-wire_bytes n h = omega arith
 
-pub same_24 : (a b : ℕ) → a < 2 ^ 24 → b < 2 ^ 24 → le24 a ≡ le24 b → a ≡ b
-same_24 a b p q e = sym (of_le24-le24 a p) ∙ ap of_le24 e ∙ of_le24-le24 b q
+pub same_24 : (a b : ℕ) → a < 2 ^ 24 → b < 2 ^ 24 → wire_bytes a ≡ wire_bytes b → a ≡ b
+same_24 a b p q e = sym (of_wire-wire_bytes a p) ∙ ap of_wire e ∙ of_wire-wire_bytes b q
 
 take_4 : (m : List ℕ) → length m ≡ 4 → take 4 m ≡ m
 take_4 m h = take_all 4 m (omega arith)
@@ -60,12 +60,12 @@ is_join bytes j d n m len first ej ed en em = sym (
 
 -- a rejoin-request of type 0 or 2 from its pieces
 pub is_rejoin02 : (bytes : List ℕ) (k w : ℕ) (d : Eui) (n : ℕ) (m : List ℕ) → length bytes ≡ 19 → slice_index_or bytes 0 0 ≡ 192 → slice_index_or bytes 1 0 ≡ k
-    → le24 w ≡ take 3 (drop 2 bytes) → to_le_bytes w64 d.0 ≡ take 8 (drop 5 bytes)
+    → wire_bytes w ≡ take 3 (drop 2 bytes) → to_le_bytes w64 d.0 ≡ take 8 (drop 5 bytes)
     → to_le_bytes w16 n ≡ take 2 (drop 13 bytes) → m ≡ take 4 (drop 15 bytes) → bytes ≡ rejoin02_fields k w d n ++ m
 is_rejoin02 bytes k w d n m len first second ew ed en em = sym (
-    ap (λ (t : List ℕ). 192 ∷ k ∷ le24 w ++ (to_le_bytes w64 d.0 ++ (to_le_bytes w16 n ++ t))) (last_piece 15 4 bytes m len em)
-    ∙ ap (λ (t : List ℕ). 192 ∷ k ∷ le24 w ++ (to_le_bytes w64 d.0 ++ t)) (piece 13 2 15 bytes _ refl en)
-    ∙ ap (λ (t : List ℕ). 192 ∷ k ∷ le24 w ++ t) (piece 5 8 13 bytes _ refl ed)
+    ap (λ (t : List ℕ). 192 ∷ k ∷ wire_bytes w ++ (to_le_bytes w64 d.0 ++ (to_le_bytes w16 n ++ t))) (last_piece 15 4 bytes m len em)
+    ∙ ap (λ (t : List ℕ). 192 ∷ k ∷ wire_bytes w ++ (to_le_bytes w64 d.0 ++ t)) (piece 13 2 15 bytes _ refl en)
+    ∙ ap (λ (t : List ℕ). 192 ∷ k ∷ wire_bytes w ++ t) (piece 5 8 13 bytes _ refl ed)
     ∙ ap (λ (t : List ℕ). 192 ∷ k ∷ t) (piece 2 3 5 bytes _ refl ew)
     ∙ ap (λ (t : List ℕ). 192 ∷ t) (second_byte bytes k (omega arith) second)
     ∙ first_byte bytes 192 (omega arith) first
@@ -101,7 +101,7 @@ one_join bytes j d n m (Rejoin1 j' d' c' m') f first hj hd hn ej ed en em = let 
 -- a rejoin-request of type 0 or 2 has one reading
 pub one_rejoin02 : (bytes : List ℕ) (k w : ℕ) (d : Eui) (n : ℕ) (m : List ℕ) (v : JoinUp) → JoinForm bytes v → slice_index_or bytes 0 0 ≡ 192
     → slice_index_or bytes 1 0 ≡ k → (k ≡ 0) ⊎ (k ≡ 2)
-    → w < 2 ^ 24 → d.0 < 2 ^ 64 → n < 2 ^ 16 → le24 w ≡ take 3 (drop 2 bytes) → to_le_bytes w64 d.0 ≡ take 8 (drop 5 bytes)
+    → w < 2 ^ 24 → d.0 < 2 ^ 64 → n < 2 ^ 16 → wire_bytes w ≡ take 3 (drop 2 bytes) → to_le_bytes w64 d.0 ≡ take 8 (drop 5 bytes)
     → to_le_bytes w16 n ≡ take 2 (drop 13 bytes) → m ≡ take 4 (drop 15 bytes) → Rejoin02 k w d n m ≡ v
 one_rejoin02 bytes k w d n m (Join j' d' n' m') f first second kind hw hd hn ew ed en em = let bad = rw f.0 at first in cc
 one_rejoin02 bytes k w d n m (Rejoin02 k' w' d' n' m') f first second kind hw hd hn ew ed en em =

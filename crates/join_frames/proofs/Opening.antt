@@ -7,7 +7,7 @@ use Rattle.join_frames.specs.Accepts.{accept_text, accept_mic, fixed_fields, is_
 use Rattle.join_frames.specs.declared.accept.Accept.{Accept}
 use Rattle.join_frames.specs.declared.accept.AcceptKind.{AcceptKind}
 use Rattle.wire_ids.specs.declared.eui.Eui.{Eui}
-use Rattle.key_vault.specs.Keys.{le24}
+use Rattle.wire_ids.specs.Numbers.{wire_bytes}
 use Rattle.std.specs.Int.{w32, from_le_bytes}
 use Rattle.std.proofs.lemmas.Nat.{from_le_bytes-to_le_bytes_4}
 use Rattle.join_frames.proofs.Forms.{same_24}
@@ -22,8 +22,8 @@ key_of nwk a = accept_key nwk a.dev.0 (is_rejoin a.kind)
 pub one_accept : (a : Accept) (rest block : List ℕ) (kind : AcceptKind) (dev join_eui : Eui) (counter nonce net addr : ℕ) (cf : Option (List ℕ))
     → HasRanges a → AnswersRequest kind dev join_eui counter a → block ≡ fixed_fields a ++ rest → cf ≡ a.radio.cf
     → nonce < 2 ^ 24 → net < 2 ^ 24
-    → le24 nonce ≡ slice_index_or block 0 0 ∷ slice_index_or block 1 0 ∷ slice_index_or block 2 0 ∷ []
-    → le24 net ≡ slice_index_or block 3 0 ∷ slice_index_or block 4 0 ∷ slice_index_or block 5 0 ∷ []
+    → wire_bytes nonce ≡ slice_index_or block 0 0 ∷ slice_index_or block 1 0 ∷ slice_index_or block 2 0 ∷ []
+    → wire_bytes net ≡ slice_index_or block 3 0 ∷ slice_index_or block 4 0 ∷ slice_index_or block 5 0 ∷ []
     → addr ≡ from_le_bytes w32 (slice_index_or block 6 0 ∷ slice_index_or block 7 0 ∷ slice_index_or block 8 0 ∷ slice_index_or block 9 0 ∷ [])
     → (let read : Accept = record {
       kind = kind;

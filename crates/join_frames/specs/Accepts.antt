@@ -4,7 +4,8 @@ use Rattle.std.specs.Int.{w16, w32, w64, to_le_bytes}
 use Rattle.std.specs.List.{range_with_len, flat_map}
 use Rattle.aes_cmac.specs.Aes.{decrypted, IsBlock}
 use Rattle.aes_cmac.specs.Mac.{block}
-use Rattle.key_vault.specs.Keys.{le24, js_int_key}
+use Rattle.key_vault.specs.Keys.{js_int_key}
+use Rattle.wire_ids.specs.Numbers.{wire_bytes}
 use Rattle.key_vault.specs.Table.{accept_key}
 use Rattle.wire_ids.specs.declared.eui.Eui.{Eui}
 use Rattle.join_frames.specs.Mics.{mic}
@@ -32,7 +33,7 @@ cf_list (Some cf) = cf
 
 -- JoinNonce, Home_NetID, DevAddr, DLSettings and RxDelay
 unfoldable pub fixed_fields : Accept → List ℕ
-fixed_fields a = le24 a.seed.nonce ++ (le24 a.net ++ (to_le_bytes w32 a.addr.0 ++ a.radio.dl ∷ a.radio.rx_delay ∷ []))
+fixed_fields a = wire_bytes a.seed.nonce ++ (wire_bytes a.net ++ (to_le_bytes w32 a.addr.0 ++ a.radio.dl ∷ a.radio.rx_delay ∷ []))
 
 -- the fields, which end with the CFList
 abbrev pub accept_fields : Accept → List ℕ

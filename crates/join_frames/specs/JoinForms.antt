@@ -1,7 +1,7 @@
 -- The join-request and the rejoin-requests (LoRaWAN 1.1, 6.2.2 and 6.2.4). Numbers are little-endian.
 use Rattle.std.specs.Prelude.{◌≡◌, ℕ, ◌<◌, ◌^◌, List, ◌∷◌, ◌++◌, length, ◌⊎◌}
 use Rattle.std.specs.Int.{w16, w64, to_le_bytes}
-use Rattle.key_vault.specs.Keys.{le24}
+use Rattle.wire_ids.specs.Numbers.{wire_bytes}
 use Rattle.wire_ids.specs.declared.eui.Eui.{Eui}
 use Rattle.wire_ids.specs.declared.faults.FrameFault.{FrameFault}
 use Rattle.wire_ids.specs.declared.faults.FrameFault.TheVariants.{Size, Form}
@@ -14,7 +14,7 @@ join_fields join_eui dev_eui nonce = 0x00 ∷ to_le_bytes w64 join_eui.0 ++ (to_
 
 -- a rejoin-request of type 0 or 2 without its MIC: MHDR, type, NetID, DevEUI and RJcount0 (6.2.4.1)
 abbrev pub rejoin02_fields : ℕ → ℕ → Eui → ℕ → List ℕ
-rejoin02_fields kind net dev_eui count = 0xc0 ∷ kind ∷ le24 net ++ (to_le_bytes w64 dev_eui.0 ++ to_le_bytes w16 count)
+rejoin02_fields kind net dev_eui count = 0xc0 ∷ kind ∷ wire_bytes net ++ (to_le_bytes w64 dev_eui.0 ++ to_le_bytes w16 count)
 
 -- a rejoin-request of type 1 without its MIC: MHDR, type, JoinEUI, DevEUI and RJcount1 (6.2.4.2)
 abbrev pub rejoin1_fields : Eui → Eui → ℕ → List ℕ

@@ -1,4 +1,3 @@
 pub mod Mics
 pub mod JoinForms
-pub mod JoinReads
 pub mod Accepts

@@ -53,23 +53,13 @@ impl Accept {
     pub(crate) fn fixed_fields(&self) -> [u8; 12]
         ensures { result ≡ fixed_fields self.now }
     {
-        let j = self.seed.nonce.get().to_le_bytes();
-        let n = self.net.get().to_le_bytes();
-        let a = self.addr.0.to_le_bytes();
-        [
-            j[0],
-            j[1],
-            j[2],
-            n[0],
-            n[1],
-            n[2],
-            a[0],
-            a[1],
-            a[2],
-            a[3],
-            self.radio.dl,
-            self.radio.rx_delay,
-        ]
+        let mut fields = [0; 12];
+        fields[..3].copy_from_slice(&self.seed.nonce.to_wire());
+        fields[3..6].copy_from_slice(&self.net.to_wire());
+        fields[6..10].copy_from_slice(&self.addr.to_wire());
+        fields[10] = self.radio.dl;
+        fields[11] = self.radio.rx_delay;
+        fields
     }
 
     // The CFList, where there is one.

@@ -1,8 +1,7 @@
 ghost use Rattle.std.specs.Prelude.{◌≡◌, ◌≤◌, ◌+◌, length, take, drop, IfOk, IfErr};
 ghost use Rattle.std.specs.Int.{w16, w64, to_le_bytes};
-ghost use Rattle.key_vault.specs.Keys.{le24};
+ghost use Rattle.wire_ids.specs.Numbers.{wire_bytes};
 ghost use Rattle.join_frames.specs.JoinForms.{JoinForm, JoinFault};
-ghost use Rattle.join_frames.specs.JoinReads.{u16_at, eui_at, net_at, join_up_of};
 ghost use Rattle.join_frames.specs.declared.join_up.JoinUp.{JoinUp};
 
 use wire_ids::{Eui, FrameFault, NetId};
@@ -35,7 +34,6 @@ pub enum JoinUp {
 fn u16_at(frame: &[u8], at: usize) -> u16
     requires { at + 2 ≤ length frame.now }
     ensures bytes { to_le_bytes w16 result ≡ take 2 (drop at frame.now) }
-    ensures value { result ≡ u16_at frame.now at }
 {
     let mut bytes = [0; 2];
     bytes.copy_from_slice(&frame[at..at + 2]);
@@ -45,11 +43,10 @@ fn u16_at(frame: &[u8], at: usize) -> u16
 fn eui_at(frame: &[u8], at: usize) -> Eui
     requires { at + 8 ≤ length frame.now }
     ensures bytes { to_le_bytes w64 result.0 ≡ take 8 (drop at frame.now) }
-    ensures value { result ≡ eui_at frame.now at }
 {
     let mut bytes = [0; 8];
     bytes.copy_from_slice(&frame[at..at + 8]);
-    Eui(u64::from_le_bytes(bytes))
+    Eui::from_wire(bytes)
 }
 
 fn mic_at(frame: &[u8], at: usize) -> [u8; 4]
@@ -63,19 +60,17 @@ fn mic_at(frame: &[u8], at: usize) -> [u8; 4]
 
 fn net_at(frame: &[u8], at: usize) -> NetId
     requires { at + 3 ≤ length frame.now }
-    ensures bytes { le24 result ≡ take 3 (drop at frame.now) }
-    ensures value { result ≡ net_at frame.now at }
+    ensures bytes { wire_bytes result ≡ take 3 (drop at frame.now) }
 {
-    NetId::from_be_bytes([frame[at + 2], frame[at + 1], frame[at]])
+    NetId::from_wire([frame[at], frame[at + 1], frame[at + 2]])
 }
 
 /// The fields of a join-request of 23 bytes or of a rejoin-request of 19 or 24 bytes. `Size` where
-/// the frame has another length, and `Form` where its first bytes are those of no frame of its length.
-#[tactic(auto, unfolding(crate::specs::JoinReads::join_up_of))]
+/// the frame has another length, and `Form` where its first bytes are those of no frame of its
+/// length.
 pub fn read_up(frame: &[u8]) -> Result<JoinUp, FrameFault>
     ensures form { IfOk result (λ v. JoinForm frame.now v) }
     ensures only { (v : JoinUp) → JoinForm frame.now v → result ≡ Ok v }
-    ensures value { result ≡ join_up_of frame.now }
     ensures fault { IfErr result (λ e. JoinFault frame.now e) }
 {
     match frame.len() {

@@ -1,6 +1,6 @@
 ghost use Rattle.std.specs.Prelude.{◌≡◌, ◌≤◌, ◌+◌, ◌<◌, ◌^◌, ◌++◌, length, take, drop};
-ghost use Rattle.std.specs.Prelude.{IfSome, Some, List, ℕ};
-ghost use Rattle.key_vault.specs.Keys.{le24};
+ghost use Rattle.std.specs.Prelude.{◌↔◌, IfSome, None, Some, List, ℕ};
+ghost use Rattle.wire_ids.specs.Numbers.{wire_bytes};
 ghost use Rattle.join_frames.specs.Accepts.{accept_text, fixed_fields, HasRanges, AnswersRequest};
 ghost use Rattle.join_frames.specs.declared.accept.Accept.{Accept};
 
@@ -8,12 +8,20 @@ use crate::accept::{Accept, AcceptKind};
 use crate::sealing::{accept_key, accept_under, joined};
 use wire_ids::{DevAddr, Eui, NetId, Nonce24, Radio, Seed};
 
-// The number of three bytes, the lowest first.
-fn number_of(bytes: [u8; 3]) -> u32
-    ensures bytes { le24 result ≡ bytes }
+// The JoinNonce of three bytes, the lowest first.
+fn nonce_of(bytes: [u8; 3]) -> Nonce24
+    ensures bytes { wire_bytes result ≡ bytes }
     ensures small { result < 2 ^ 24 }
 {
-    u32::from(bytes[0]) + u32::from(bytes[1]) * 256 + u32::from(bytes[2]) * 65536
+    Nonce24::from_wire(bytes)
+}
+
+// The NetID of three bytes, the lowest first.
+fn net_of(bytes: [u8; 3]) -> NetId
+    ensures bytes { wire_bytes result ≡ bytes }
+    ensures small { result < 2 ^ 24 }
+{
+    NetId::from_wire(bytes)
 }
 
 // The accept whose fields begin this block, with this CFList, for a request.
@@ -24,30 +32,28 @@ fn accept_of(
     counter: u16,
     block: [u8; 16],
     cf: Option<[u8; 16]>,
-) -> Option<Accept>
-    ensures answers { IfSome result (AnswersRequest kind dev join_eui counter) }
+) -> Accept
+    ensures answers { AnswersRequest kind dev join_eui counter result }
     ensures only { (a : Accept) (rest : List ℕ) → HasRanges a
-        → AnswersRequest kind dev join_eui counter a → block ≡ fixed_fields a ++ rest → cf ≡ a.radio.cf → result ≡ Some a }
+        → AnswersRequest kind dev join_eui counter a → block ≡ fixed_fields a ++ rest
+        → cf ≡ a.radio.cf → result ≡ a }
 {
-    let nonce = Nonce24::new(number_of([block[0], block[1], block[2]]))?;
-    let net = NetId::new(number_of([block[3], block[4], block[5]]))?;
-    let addr = u32::from_le_bytes([block[6], block[7], block[8], block[9]]);
-    Some(Accept {
+    Accept {
         kind,
         dev,
         seed: Seed {
-            nonce,
+            nonce: nonce_of([block[0], block[1], block[2]]),
             join_eui,
             counter,
         },
-        net,
-        addr: DevAddr(addr),
+        net: net_of([block[3], block[4], block[5]]),
+        addr: DevAddr::from_wire([block[6], block[7], block[8], block[9]]),
         radio: Radio {
             dl: block[10],
             rx_delay: block[11],
             cf,
         },
-    })
+    }
 }
 
 // The 16 bytes at a place.
@@ -84,19 +90,13 @@ fn unsealed(
     match bytes.len() {
         17 => {
             let block = keys.encrypt(block_at(bytes, 1));
-            accept_of(kind, dev, join_eui, counter, block, None)
+            Some(accept_of(kind, dev, join_eui, counter, block, None))
         }
         33 => {
             let first = keys.encrypt(block_at(bytes, 1));
             let second = keys.encrypt(block_at(bytes, 17));
-            accept_of(
-                kind,
-                dev,
-                join_eui,
-                counter,
-                first,
-                Some(cf_list(first, second)),
-            )
+            let cf = Some(cf_list(first, second));
+            Some(accept_of(kind, dev, join_eui, counter, first, cf))
         }
         _ => None,
     }
@@ -116,6 +116,8 @@ pub fn open_accept(
     ensures answers { IfSome result (AnswersRequest kind dev join_eui counter) }
     ensures only { (a : Accept) → HasRanges a → AnswersRequest kind dev join_eui counter a
         → bytes.now ≡ accept_text nwk_key.now a → result ≡ Some a }
+    ensures none { (result ≡ None) ↔ ((a : Accept) → HasRanges a
+        → AnswersRequest kind dev join_eui counter a → bytes.now ≡ accept_text nwk_key.now a → ⊥) }
 {
     let accept = unsealed(nwk_key, kind, dev, join_eui, counter, bytes)?;
     if accept_under(nwk_key, &accept).as_slice() == bytes {

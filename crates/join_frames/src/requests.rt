@@ -13,13 +13,11 @@ use wire_ids::{Eui, NetId};
 fn join_fields(join_eui: Eui, dev: Eui, nonce: u16) -> [u8; 19]
     ensures { result ≡ join_fields join_eui dev nonce }
 {
-    let j = join_eui.0.to_le_bytes();
-    let d = dev.0.to_le_bytes();
-    let n = nonce.to_le_bytes();
-    [
-        0, j[0], j[1], j[2], j[3], j[4], j[5], j[6], j[7], d[0], d[1], d[2], d[3], d[4], d[5],
-        d[6], d[7], n[0], n[1],
-    ]
+    let mut fields = [0; 19];
+    fields[1..9].copy_from_slice(&join_eui.to_wire());
+    fields[9..17].copy_from_slice(&dev.to_wire());
+    fields[17..].copy_from_slice(&nonce.to_le_bytes());
+    fields
 }
 
 /// The join-request of a device, with its MIC (LoRaWAN 1.1, 6.2.2).
@@ -39,12 +37,13 @@ pub fn join_bytes(nwk_key: &[u8; 16], join_eui: Eui, dev: Eui, nonce: u16) -> [u
 fn rejoin02_fields(kind: u8, net: NetId, dev: Eui, count: u16) -> [u8; 15]
     ensures { result ≡ rejoin02_fields kind net dev count }
 {
-    let n = net.get().to_le_bytes();
-    let d = dev.0.to_le_bytes();
-    let c = count.to_le_bytes();
-    [
-        0xc0, kind, n[0], n[1], n[2], d[0], d[1], d[2], d[3], d[4], d[5], d[6], d[7], c[0], c[1],
-    ]
+    let mut fields = [0; 15];
+    fields[0] = 0xc0;
+    fields[1] = kind;
+    fields[2..5].copy_from_slice(&net.to_wire());
+    fields[5..13].copy_from_slice(&dev.to_wire());
+    fields[13..].copy_from_slice(&count.to_le_bytes());
+    fields
 }
 
 /// The rejoin-request of a device of type `kind`, 0 or 2, with its MIC under SNwkSIntKey
@@ -66,13 +65,13 @@ pub fn rejoin02_bytes(s_key: &[u8; 16], kind: u8, net: NetId, dev: Eui, count: u
 fn rejoin1_fields(join_eui: Eui, dev: Eui, count: u16) -> [u8; 20]
     ensures { result ≡ rejoin1_fields join_eui dev count }
 {
-    let j = join_eui.0.to_le_bytes();
-    let d = dev.0.to_le_bytes();
-    let c = count.to_le_bytes();
-    [
-        0xc0, 1, j[0], j[1], j[2], j[3], j[4], j[5], j[6], j[7], d[0], d[1], d[2], d[3], d[4],
-        d[5], d[6], d[7], c[0], c[1],
-    ]
+    let mut fields = [0; 20];
+    fields[0] = 0xc0;
+    fields[1] = 1;
+    fields[2..10].copy_from_slice(&join_eui.to_wire());
+    fields[10..18].copy_from_slice(&dev.to_wire());
+    fields[18..].copy_from_slice(&count.to_le_bytes());
+    fields
 }
 
 /// The rejoin-request of a device of type 1, with its MIC under JSIntKey (LoRaWAN 1.1, 6.2.4.2).

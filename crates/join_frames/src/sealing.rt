@@ -1,4 +1,5 @@
-ghost use Rattle.std.specs.Prelude.{◌≡◌, ◌<◌, ◌≤◌, ◌∷◌, ◌++◌, ◌+◌, [], length, take, drop};
+ghost use Rattle.std.specs.Prelude.{◌≡◌, ◌<◌, ◌⊎◌, ◌∷◌, ◌++◌, ◌+◌, length, take, drop};
+ghost use Rattle.std.specs.Prelude.{List, ℕ, None, Some};
 ghost use Rattle.key_vault.specs.Table.{nwk_at, accept_key};
 ghost use Rattle.key_vault.specs.Keys.{js_int_key};
 ghost use Rattle.join_frames.specs.Mics.{mic};
@@ -19,19 +20,20 @@ pub struct AcceptBytes {
 }
 
 impl Model for AcceptBytes {
-    ghost use Rattle.std.specs.Prelude.{◌≤◌, List, ℕ, take};
+    ghost use Rattle.std.specs.Prelude.{◌≡◌, ◌⊎◌, List, ℕ, take};
 
     ghost Value = { List ℕ };
 
     ghost view = { λ a. take a.len a.bytes };
 
-    ghost invariant = { λ a. a.len ≤ 33 };
+    ghost invariant = { λ a. (a.len ≡ 17) ⊎ (a.len ≡ 33) };
 }
 
 impl AcceptBytes {
     // Of an accept without CFList.
     fn of_one(block: [u8; 16]) -> AcceptBytes
-        ensures { result ≡ 0x20 ∷ block }
+        ensures value { result ≡ 0x20 ∷ block }
+        ensures sized { length result ≡ 17 }
     {
         let mut bytes = [0x20; 33];
         bytes[1..17].copy_from_slice(&block);
@@ -40,7 +42,8 @@ impl AcceptBytes {
 
     // Of an accept with a CFList.
     fn of_two(first: [u8; 16], second: [u8; 16]) -> AcceptBytes
-        ensures { result ≡ 0x20 ∷ first ++ second }
+        ensures value { result ≡ 0x20 ∷ first ++ second }
+        ensures sized { length result ≡ 33 }
     {
         let mut bytes = [0x20; 33];
         bytes[1..17].copy_from_slice(&first);
@@ -51,7 +54,7 @@ impl AcceptBytes {
     /// The bytes, MHDR first.
     pub fn as_slice(&self) -> &[u8]
         ensures bytes { result.now ≡ self.now }
-        ensures short { length result.now ≤ 33 }
+        ensures sized { (length result.now ≡ 17) ⊎ (length result.now ≡ 33) }
     {
         &self.bytes[..self.len]
     }
@@ -65,7 +68,7 @@ fn accept_mic(js_int: &[u8; 16], accept: &Accept) -> [u8; 4]
     let keys = RoundKeys::new(js_int);
     let mut cmac = Cmac::new(&keys);
     cmac.update(&[accept.kind.join_req_type()]);
-    cmac.update(&accept.seed.join_eui.0.to_le_bytes());
+    cmac.update(&accept.seed.join_eui.to_wire());
     cmac.update(&accept.seed.counter.to_le_bytes());
     cmac.update(&[0x20]);
     cmac.update(&accept.fixed_fields());
@@ -111,7 +114,9 @@ pub fn accept_bytes<E: BlockFn, D: BlockFn>(
     accept: &Accept,
 ) -> AcceptBytes
     requires { i < length vault.now }
-    ensures { result ≡ accept_text (nwk_at vault.now i) accept.now }
+    ensures value { result ≡ accept_text (nwk_at vault.now i) accept.now }
+    ensures short { accept.now.radio.cf ≡ None → length result ≡ 17 }
+    ensures long { (cf : List ℕ) → accept.now.radio.cf ≡ Some cf → length result ≡ 33 }
 {
     let mic = accept_mic(&vault.js_int(i, accept.dev), accept);
     let rejoin = accept.kind.is_rejoin();

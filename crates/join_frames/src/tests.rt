@@ -145,7 +145,7 @@ fn expect_calls<E: BlockFn, D: BlockFn>(
 }
 
 #[test]
-fn under_a_vault(rt: HostRuntime) -> Result<(), Fail> {
+fn accepts_are_sealed_and_opened(rt: HostRuntime) -> Result<(), Fail> {
     let keys = table(rt.alloc())?;
     let ring = KeyRing::new(rt.alloc(), &keys).or(Err("memory"))?;
     let other = KeyRing::new(rt.alloc(), &keys).or(Err("memory"))?;
@@ -162,7 +162,19 @@ fn under_a_vault(rt: HostRuntime) -> Result<(), Fail> {
 }
 
 #[test]
-fn requests(rt: HostRuntime) -> Result<(), Fail> {
+fn the_accept_of_a_first_join_tells_its_nonce_and_address(rt: HostRuntime) -> Result<(), Fail> {
+    let mut bytes = [0x20; 17];
+    bytes[1..].copy_from_slice(&0x53920cfdf2a9f2b09d93e224878cab9eu128.to_be_bytes());
+    let accept = open_accept(&NWK_KEY, AcceptKind::Join, DEVICE, JOIN_EUI, 0, &bytes).ok_or(
+        "an accept",
+    )?;
+    assert_eq!(rt; accept.seed.nonce.get(), 1);
+    assert_eq!(rt; accept.addr, DevAddr(0x28000001));
+    Ok(())
+}
+
+#[test]
+fn requests_have_their_bytes_and_their_mic(rt: HostRuntime) -> Result<(), Fail> {
     let mut join = [0; 23];
     join[1..17].copy_from_slice(&JOIN.to_be_bytes());
     join[19..].copy_from_slice(&0x843457dau32.to_be_bytes());
@@ -217,7 +229,7 @@ fn form_of(head: [u8; 2], len: usize) -> Result<u8, FrameFault>
 }
 
 #[test]
-fn forms(rt: HostRuntime) -> Result<(), Fail> {
+fn a_form_is_told_by_first_bytes_and_length(rt: HostRuntime) -> Result<(), Fail> {
     let form = Err(FrameFault::Form);
     for (head, at_19, at_23, at_24) in [
         ([0x00, 0x00], form, Ok(3), form),

@@ -14,7 +14,7 @@ returns c =
       c.new-keys.ensures,
       c.cf_list.ensures,
       c.fixed_fields.ensures,
-      c.to_le_bytes-2.ensures,
       c.to_le_bytes.ensures,
+      c.to_wire.ensures,
       c.join_req_type.ensures,
     ) refl

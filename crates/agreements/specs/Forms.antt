@@ -1,32 +1,24 @@
 -- The forms of values.
-use Rattle.std.specs.Prelude.{ℕ, ℤ, pos, negsuc, ◌/◌, ◌%◌, ◌==◌, ◌&&◌, ◌||◌, nat_le, Bool, List, [], ◌∷◌, length, drop, slice_index, if◌then◌else◌, codes, Option, Some, None, option_and_then, option_map, Result, Ok, Err}
-use Rattle.std.specs.Int.{w64, from_be_bytes}
+use Rattle.std.specs.Prelude.{ℕ, ℤ, pos, negsuc, ◌/◌, ◌%◌, ◌==◌, ◌&&◌, nat_le, Bool, List, [], ◌∷◌, length, slice_index, if◌then◌else◌, codes, Option, Some, None, option_and_then, option_map}
 use Rattle.std.specs.List.{list_all}
+use Rattle.std.specs.Result.{result_ok}
 use Rattle.std.specs.Str.{bytes_eq}
 use Rattle.hex.specs.Hex.{decode_sized}
 use Rattle.toml.specs.Data.{Data, as_str, as_integer, as_array, Items, no_items, item}
-use Rattle.wire_ids.specs.Numbers.{net_number}
+use Rattle.wire_ids.specs.Digits.{read_eui, read_net, without_prefix}
 use Rattle.wire_ids.specs.declared.eui.Eui.{Eui}
 use Rattle.agreements.specs.declared.rows.Passive.{Passive}
 use Rattle.agreements.specs.declared.rows.Passive.TheVariants as passive
 
--- without `0x` or `0X`
-abbrev pub without_prefix : List ℕ → List ℕ
-without_prefix text = if slice_index text 0 == 48 && (slice_index text 1 == 120 || slice_index text 1 == 88) then drop 2 text else text
-
-abbrev pub ok_of : {A E : Type 0} → Result A E → Option A
-ok_of (Ok a) = Some a
-ok_of (Err e) = None
-
 -- n bytes, written as 2 n hexadecimal digits
 unfoldable pub bytes_of : ℕ → Data → Option (List ℕ)
-bytes_of n d = option_and_then (λ text. ok_of (decode_sized (without_prefix text) n)) (as_str d)
+bytes_of n d = option_and_then (λ text. result_ok (decode_sized (without_prefix text) n)) (as_str d)
 
 unfoldable pub eui_of : Data → Option Eui
-eui_of d = option_map (λ bytes. record { 0 = from_be_bytes w64 bytes }) (bytes_of 8 d)
+eui_of d = option_and_then (λ text. result_ok (read_eui text)) (as_str d)
 
 unfoldable pub net_of : Data → Option ℕ
-net_of d = option_map net_number (bytes_of 3 d)
+net_of d = option_and_then (λ text. result_ok (read_net text)) (as_str d)
 
 abbrev pub if_holds : {A : Type 0} → Bool → A → Option A
 if_holds b a = if b then Some a else None

@@ -7,7 +7,8 @@ use std::alloc::{AllocError, Global};
 use wire_ids::Text;
 
 /// Why a text has no tables: the first fault of the walk through it. A path is `text`, a section as
-/// `device`, or a key as `desk.net_id`, `device[2].nwk_key` or `desk.join_euis[1]`; rows count from 0.
+/// `device`, or a key as `desk.net_id`, `device[2].nwk_key` or `desk.join_euis[1]`; rows count from
+/// 0.
 #[derive(Drop)]
 pub enum TablesFault {
     /// The text isn't UTF-8, or no TOML document.

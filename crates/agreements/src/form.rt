@@ -5,7 +5,7 @@ ghost use Rattle.toml.specs.Data.{as_bool};
 ghost use Rattle.toml.specs.declared.value.Value as toml_value;
 ghost use Rattle.agreements.specs.Forms.{array_of, bytes_of, cf_list_of, dl_settings_of, eui_of};
 ghost use Rattle.agreements.specs.Forms.{is_printable, net_of, number_of, passive_of, printable_of};
-ghost use Rattle.agreements.specs.Forms.{without_prefix};
+ghost use Rattle.wire_ids.specs.Digits.{without_prefix};
 ghost use Rattle.agreements.specs.Steps.{Gives, absent, data_of, need, or_else, read_as};
 
 use crate::Passive;
@@ -31,10 +31,7 @@ fn bytes<const N: usize>(value: &Value) -> Option<[u8; N]>
     ensures { result ≡ bytes_of N (view value.now) }
 {
     let text = value.as_str()?;
-    match <[u8; N]>::from_hex(without_prefix(text)) {
-        Ok(bytes) => Some(bytes),
-        Err(_) => None,
-    }
+    <[u8; N]>::from_hex(without_prefix(text)).ok()
 }
 
 // A value's form, or the refusal of its key.
@@ -63,8 +60,8 @@ fn missing<T>(key: &'static str) -> Result<T, Flaw>
 pub(crate) fn eui_of(value: &Value) -> Option<Eui>
     ensures { result ≡ eui_of (view value.now) }
 {
-    let bytes = bytes::<8>(value)?;
-    Some(Eui(u64::from_be_bytes(bytes)))
+    let text = value.as_str()?;
+    Eui::from_hex(text.as_bytes()).ok()
 }
 
 pub(crate) fn eui(key: &'static str, value: Option<&Value>) -> Result<Eui, Flaw>
@@ -80,8 +77,8 @@ pub(crate) fn eui(key: &'static str, value: Option<&Value>) -> Result<Eui, Flaw>
 fn net_of(value: &Value) -> Option<NetId>
     ensures { result ≡ net_of (view value.now) }
 {
-    let bytes = bytes::<3>(value)?;
-    Some(NetId::from_be_bytes(bytes))
+    let text = value.as_str()?;
+    NetId::from_hex(text.as_bytes()).ok()
 }
 
 pub(crate) fn net(key: &'static str, value: Option<&Value>) -> Result<NetId, Flaw>

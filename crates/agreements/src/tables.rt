@@ -128,9 +128,10 @@ fn tables_in(alloc: Global, doc: &Table) -> Result<Tables, TablesFault>
 }
 
 /// The tables of a TOML text of at most 4,194,304 bytes, or the first fault of the walk through it:
-/// the text's length, the document, then the sections `desk`, `network`, `agreement`, `join_server`,
-/// `application`, `gateway` and `device`; in a section its count, then its rows; in a row each key
-/// in order, tried for `Missing`, `BadValue`, `Twice` and `NoSuch`. Unknown keys are unread.
+/// the text's length, the document, then the sections `desk`, `network`, `agreement`,
+/// `join_server`, `application`, `gateway` and `device`; in a section its count, then its rows; in
+/// a row each key in order, tried for `Missing`, `BadValue`, `Twice` and `NoSuch`. Unknown keys are
+/// unread.
 #[tactic(auto, unfolding(crate::specs::Walk::tables_of))]
 pub fn read_tables(alloc: Global, text: &[u8]) -> Result<Tables, TablesFault>
     ensures { MatchResult result (λ t. tables_of text.now ≡ Ok t)

@@ -1,9 +1,12 @@
 mod cases;
 mod sample;
 
-use crate::{Passive, Tables, read_tables};
-use cases::{ALLOWED, DESK, DEVICES, PARTIES};
-use sample::{SECTIONS, sample};
+use crate::{Passive, Tables, TablesFault, read_tables};
+use cases::{
+    ALLOWED, ALLOWED_ENDS, DESK, DEVICES, ENDS, FORMS, KINDS_ABOVE_DEVICES, KINDS_OF_DEVICES,
+    PARTIES, TWICE,
+};
+use sample::{SECTIONS, most_devices, sample};
 use std::alloc::{AllocError, Global};
 use std::process::Abort;
 use std::test::Fail;
@@ -70,7 +73,7 @@ fn allow_each(
 }
 
 #[test]
-fn faults_of_the_desk(rt: HostRuntime) -> Result<(), Fail> {
+fn each_fault_of_the_desk_is_told_at_its_key(rt: HostRuntime) -> Result<(), Fail> {
     let alloc = rt.alloc();
     let text = sample(alloc)?;
     expect_each(&rt, alloc, text.as_str(), DESK)?;
@@ -78,7 +81,7 @@ fn faults_of_the_desk(rt: HostRuntime) -> Result<(), Fail> {
 }
 
 #[test]
-fn faults_of_parties(rt: HostRuntime) -> Result<(), Fail> {
+fn each_fault_of_a_party_is_told_at_its_row_and_key(rt: HostRuntime) -> Result<(), Fail> {
     let alloc = rt.alloc();
     let text = sample(alloc)?;
     expect_each(&rt, alloc, text.as_str(), PARTIES)?;
@@ -86,7 +89,7 @@ fn faults_of_parties(rt: HostRuntime) -> Result<(), Fail> {
 }
 
 #[test]
-fn faults_of_devices(rt: HostRuntime) -> Result<(), Fail> {
+fn each_fault_of_a_device_is_told_at_its_row_and_key(rt: HostRuntime) -> Result<(), Fail> {
     let alloc = rt.alloc();
     let text = sample(alloc)?;
     expect_each(&rt, alloc, text.as_str(), DEVICES)?;
@@ -94,10 +97,58 @@ fn faults_of_devices(rt: HostRuntime) -> Result<(), Fail> {
 }
 
 #[test]
-fn allowed_values(rt: HostRuntime) -> Result<(), Fail> {
+fn a_text_of_another_form_is_refused_at_each_key(rt: HostRuntime) -> Result<(), Fail> {
+    let alloc = rt.alloc();
+    let text = sample(alloc)?;
+    expect_each(&rt, alloc, text.as_str(), FORMS)?;
+    Ok(())
+}
+
+#[test]
+fn a_value_of_another_kind_is_refused_above_the_devices(rt: HostRuntime) -> Result<(), Fail> {
+    let alloc = rt.alloc();
+    let text = sample(alloc)?;
+    expect_each(&rt, alloc, text.as_str(), KINDS_ABOVE_DEVICES)?;
+    Ok(())
+}
+
+#[test]
+fn a_value_of_another_kind_is_refused_at_a_device(rt: HostRuntime) -> Result<(), Fail> {
+    let alloc = rt.alloc();
+    let text = sample(alloc)?;
+    expect_each(&rt, alloc, text.as_str(), KINDS_OF_DEVICES)?;
+    Ok(())
+}
+
+#[test]
+fn a_text_beyond_its_ends_is_refused(rt: HostRuntime) -> Result<(), Fail> {
+    let alloc = rt.alloc();
+    let text = sample(alloc)?;
+    expect_each(&rt, alloc, text.as_str(), ENDS)?;
+    Ok(())
+}
+
+#[test]
+fn a_second_row_of_the_same_name_is_refused(rt: HostRuntime) -> Result<(), Fail> {
+    let alloc = rt.alloc();
+    let text = sample(alloc)?;
+    expect_each(&rt, alloc, text.as_str(), TWICE)?;
+    Ok(())
+}
+
+#[test]
+fn values_of_each_form_are_allowed(rt: HostRuntime) -> Result<(), Fail> {
     let alloc = rt.alloc();
     let text = sample(alloc)?;
     allow_each(&rt, alloc, text.as_str(), ALLOWED)?;
+    Ok(())
+}
+
+#[test]
+fn the_ends_of_each_range_are_allowed(rt: HostRuntime) -> Result<(), Fail> {
+    let alloc = rt.alloc();
+    let text = sample(alloc)?;
+    allow_each(&rt, alloc, text.as_str(), ALLOWED_ENDS)?;
     Ok(())
 }
 
@@ -160,7 +211,7 @@ const KINDS: &[(&str, u32, &str)] = &[
 ];
 
 #[test]
-fn short_texts(rt: HostRuntime) -> Result<(), Fail> {
+fn a_text_without_a_desk_is_refused(rt: HostRuntime) -> Result<(), Fail> {
     let alloc = rt.alloc();
     for (text, number, path) in SHORT {
         expect(&rt, alloc, *text, *number, *path)?;
@@ -169,7 +220,7 @@ fn short_texts(rt: HostRuntime) -> Result<(), Fail> {
 }
 
 #[test]
-fn counts_of_rows(rt: HostRuntime) -> Result<(), Fail> {
+fn the_count_of_a_section_is_tried_before_its_rows(rt: HostRuntime) -> Result<(), Fail> {
     let alloc = rt.alloc();
     for (line, count, number, path) in COUNTS {
         let text = with_lines(alloc, *line, *count)?;
@@ -179,7 +230,18 @@ fn counts_of_rows(rt: HostRuntime) -> Result<(), Fail> {
 }
 
 #[test]
-fn kinds_of_sections(rt: HostRuntime) -> Result<(), Fail> {
+fn too_many_rows_are_told_with_the_limit(rt: HostRuntime) -> Result<(), Fail> {
+    let alloc = rt.alloc();
+    let text = with_lines(alloc, "[[gateway]]\n", 63)?;
+    match read_tables(alloc, text.as_bytes()) {
+        Err(TablesFault::TooMany { limit, .. }) => assert_eq!(rt; limit, 64),
+        _ => assert!(rt; false, "not refused for its rows"),
+    }
+    Ok(())
+}
+
+#[test]
+fn a_section_of_another_kind_is_refused(rt: HostRuntime) -> Result<(), Fail> {
     let alloc = rt.alloc();
     let (desk, _) = SECTIONS.split_once("[[network]]").ok_or("a network")?;
     for (section, number, path) in KINDS {
@@ -190,7 +252,7 @@ fn kinds_of_sections(rt: HostRuntime) -> Result<(), Fail> {
 }
 
 #[test]
-fn the_longest_text(rt: HostRuntime) -> Result<(), Fail> {
+fn a_text_may_have_4194304_bytes_and_no_more(rt: HostRuntime) -> Result<(), Fail> {
     let alloc = rt.alloc();
     let mut text = sample(alloc)?.into_bytes();
     for _ in text.len()..4194304 {
@@ -202,17 +264,20 @@ fn the_longest_text(rt: HostRuntime) -> Result<(), Fail> {
     Ok(())
 }
 
-// The tables of the sample.
-fn sample_tables(alloc: Global) -> Result<Tables, Fail> {
-    let text = sample(alloc)?;
+fn valid_tables(alloc: Global, text: &str) -> Result<Tables, Fail> {
     match read_tables(alloc, text.as_bytes()) {
         Ok(tables) => Ok(tables),
-        Err(_) => Err(Fail::from("the sample is refused")),
+        Err(_) => Err(Fail::from("the text is refused")),
     }
 }
 
+fn sample_tables(alloc: Global) -> Result<Tables, Fail> {
+    let text = sample(alloc)?;
+    valid_tables(alloc, text.as_str())
+}
+
 #[test]
-fn counts_and_defaults(rt: HostRuntime) -> Result<(), Fail> {
+fn all_rows_are_read_and_absent_keys_have_their_defaults(rt: HostRuntime) -> Result<(), Fail> {
     let tables = sample_tables(rt.alloc())?;
     assert_eq!(rt; tables.devices().len(), 40);
     assert_eq!(rt; tables.networks().len(), 3);
@@ -225,11 +290,13 @@ fn counts_and_defaults(rt: HostRuntime) -> Result<(), Fail> {
     assert_eq!(rt; desk.ask_s, 30);
     assert_eq!(rt; desk.dl_settings, 0x80);
     assert!(rt; desk.cf_list.is_none());
+    let (_, device) = tables.device(Eui(0x70b3d57ed0001001)).ok_or("a device")?;
+    assert!(rt; device.profile_time.as_slice().is_empty());
     Ok(())
 }
 
 #[test]
-fn parties(rt: HostRuntime) -> Result<(), Fail> {
+fn a_party_is_found_by_its_name(rt: HostRuntime) -> Result<(), Fail> {
     let tables = sample_tables(rt.alloc())?;
     let net = NetId::new(0x600005).ok_or("a NetID")?;
     let agreement = tables.agreement(net).ok_or("an agreement")?;
@@ -246,7 +313,7 @@ fn parties(rt: HostRuntime) -> Result<(), Fail> {
 }
 
 #[test]
-fn devices(rt: HostRuntime) -> Result<(), Fail> {
+fn a_device_is_found_with_its_application_home_and_keys(rt: HostRuntime) -> Result<(), Fail> {
     let tables = sample_tables(rt.alloc())?;
     let (place, row) = tables.device(Eui(0x70b3d57ed0001021)).ok_or("a device")?;
     assert_eq!(rt; place, 32);
@@ -260,5 +327,32 @@ fn devices(rt: HostRuntime) -> Result<(), Fail> {
     let of_device = keys.get(32).ok_or("keys")?;
     assert_eq!(rt; of_device.nwk, [33; 16]);
     assert_eq!(rt; of_device.app, [161; 16]);
+    Ok(())
+}
+
+// Rows of as many devices as there may be, and the names that these have in the text.
+const ENDS_OF_DEVICES: &[(u32, u64)] = &[
+    (0, 0x70b3d57ed0010000),
+    (2048, 0x70b3d57ed0010800),
+    (4095, 0x70b3d57ed001090f),
+];
+
+#[test]
+fn first_middle_and_last_of_4096_devices_are_found(rt: HostRuntime) -> Result<(), Fail> {
+    let alloc = rt.alloc();
+    let text = most_devices(alloc)?;
+    let tables = valid_tables(alloc, text.as_str())?;
+    assert_eq!(rt; tables.devices().len(), 4096);
+    for (number, name) in ENDS_OF_DEVICES {
+        let (place, row) = tables.device(Eui(*name)).ok_or("a device")?;
+        assert_eq!(rt; place, *number);
+        assert_eq!(rt; row.dev_eui.0, *name);
+        let key = row.nwk_key;
+        assert_eq!(rt;
+            u32::from_be_bytes([key[12], key[13], key[14], key[15]]),
+            *number
+        );
+    }
+    assert!(rt; tables.device(Eui(0x70b3d57ed0011000)).is_none());
     Ok(())
 }

@@ -499,3 +499,172 @@ pub(crate) const ALLOWED: &[(&str, &str)] = &[
         "8484\"\nprofile_time = \"2026-01-01T00:00:00.000000000000\"",
     ),
 ];
+
+/// Texts of another form, at the keys that the lists above leave out.
+pub(crate) const FORMS: &[(&str, &str, u32, &str)] = &[
+    (
+        "\"70b3d57ed0000002\"",
+        "\"70b3d57ed000002\"",
+        3,
+        "join_server[0].join_eui",
+    ),
+    (
+        "\"a000000000000001\"",
+        "\"a00000000000000g\"",
+        3,
+        "application[0].app_id",
+    ),
+    ("\"app-1\"", "\"app 1\"", 3, "application[0].kek_label"),
+    (
+        "8484\"\nhome = \"000013\"\napp = \"a0",
+        "8484\"\nhome = \"000013\"\napp = \"a",
+        3,
+        "device[3].app",
+    ),
+];
+
+/// Values of another kind in the sections above the devices.
+pub(crate) const KINDS_ABOVE_DEVICES: &[(&str, &str, u32, &str)] = &[
+    (
+        "rx_delay = 1",
+        "rx_delay = 1\nlifetime_s = \"1\"",
+        3,
+        "desk.lifetime_s",
+    ),
+    (
+        "rx_delay = 1",
+        "rx_delay = 1\nask_s = \"1\"",
+        3,
+        "desk.ask_s",
+    ),
+    (
+        "net_id = \"000014\"\nkek",
+        "net_id = 14\nkek",
+        3,
+        "network[0].net_id",
+    ),
+    ("\"net-14\"", "14", 3, "network[0].kek_label"),
+    (
+        "\"000102030405060708090a0b0c0d0e0f\"",
+        "1",
+        3,
+        "network[0].kek",
+    ),
+    ("\"127.0.0.1:7014\"", "7014", 3, "network[0].address"),
+    (
+        "\"600005\"\npassive",
+        "600005\npassive",
+        3,
+        "agreement[1].net_id",
+    ),
+    (
+        "passive_s = 600",
+        "passive_s = \"600\"",
+        3,
+        "agreement[0].passive_s",
+    ),
+    (
+        "handover_s = 3600",
+        "handover_s = 3600.0",
+        3,
+        "agreement[0].handover_s",
+    ),
+    ("\"70b3d57ed0000002\"", "[2]", 3, "join_server[0].join_eui"),
+    ("\"127.0.0.1:7002\"", "7002", 3, "join_server[0].address"),
+    ("\"a000000000000001\"", "{}", 3, "application[0].app_id"),
+    ("\"app-1\"", "true", 3, "application[0].kek_label"),
+    ("\"b000000000000002\"", "2", 3, "gateway[1].gateway_id"),
+];
+
+/// Values of another kind in devices.
+pub(crate) const KINDS_OF_DEVICES: &[(&str, &str, u32, &str)] = &[
+    ("\"70b3d57ed0001028\"", "40", 3, "device[39].dev_eui"),
+    (
+        "\"03030303030303030303030303030303\"",
+        "3",
+        3,
+        "device[2].nwk_key",
+    ),
+    (
+        "\"84848484848484848484848484848484\"",
+        "[]",
+        3,
+        "device[3].app_key",
+    ),
+    (
+        "8484\"\nhome = \"000013\"",
+        "8484\"\nhome = 13",
+        3,
+        "device[3].home",
+    ),
+    (
+        "8484\"\nhome = \"000013\"\napp =",
+        "8484\"\nhome = \"000013\"\napp = 1 #",
+        3,
+        "device[3].app",
+    ),
+];
+
+/// Texts that are one step too short or too long, or have one byte that doesn't belong there.
+pub(crate) const ENDS: &[(&str, &str, u32, &str)] = &[
+    (
+        "rx_delay = 1",
+        "rx_delay = 1\ncf_list = \"0000000000000000000000000000000000\"",
+        3,
+        "desk.cf_list",
+    ),
+    ("\"net-14\"", "\"n\\u00e9t-14\"", 3, "network[0].kek_label"),
+    ("0c0d0e0f\"", "0c0d0e0f10\"", 3, "network[0].kek"),
+    ("0c0d0e0f\"", "0c0d0e0g\"", 3, "network[0].kek"),
+    ("\"127.0.0.1:7002\"", "\"\"", 3, "join_server[0].address"),
+    (
+        "\"127.0.0.1:7002\"",
+        "\"0123456789012345678901234567890123456789012345678901234567890:123\"",
+        3,
+        "join_server[0].address",
+    ),
+    ("\"app-1\"", "\"\"", 3, "application[0].kek_label"),
+    (
+        "\"app-1\"",
+        "\"abcdefghijklmnopqrstuvwxyz0123456\"",
+        3,
+        "application[0].kek_label",
+    ),
+];
+
+/// Second rows that say again what must stand once.
+pub(crate) const TWICE: &[(&str, &str, u32, &str)] = &[
+    (
+        "[[application]]",
+        "[[join_server]]\njoin_eui = \"0x70B3D57ED0000002\"\naddress = \"~\"\n[[application]]",
+        4,
+        "join_server[1].join_eui",
+    ),
+    (
+        "[[gateway]]",
+        "[[application]]\napp_id = \"A000000000000001\"\nkek_label = \"app-2\"\n[[gateway]]",
+        4,
+        "application[1].app_id",
+    ),
+    (
+        "[[gateway]]",
+        "[[application]]\napp_id = \"a000000000000002\"\nkek_label = \"app-1\"\n[[gateway]]",
+        4,
+        "application[1].kek_label",
+    ),
+];
+
+/// Values at the ends of what is allowed.
+pub(crate) const ALLOWED_ENDS: &[(&str, &str)] = &[
+    // RX1DROffset 5, with each bit of RX2DataRate
+    ("\"80\"", "\"DF\""),
+    ("\"80\"", "\"0x8f\""),
+    ("handover_s = 3600", "handover_s = 1"),
+    ("\"127.0.0.1:7002\"", "\"~\""),
+    (
+        "\"127.0.0.1:7002\"",
+        "\"0123456789012345678901234567890123456789012345678901234567890:12\"",
+    ),
+    ("\"app-1\"", "\"!\""),
+    ("\"app-1\"", "\"abcdefghijklmnopqrstuvwxyz01234~\""),
+];

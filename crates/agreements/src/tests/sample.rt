@@ -93,3 +93,29 @@ pub(crate) fn sample(alloc: Global) -> Result<String, AllocError> {
     }
     Ok(text)
 }
+
+// The device of this row, by a name that isn't in the order of the rows. Its NwkKey is the number.
+fn scattered_device(alloc: Global, row: u16) -> Result<String, AllocError> {
+    let name = u32::from(row) * 1777 % 4096;
+    format!(in alloc;
+        r#"
+[[device]]
+dev_eui = "70b3d57ed001{name:04x}"
+join_eui = "70b3d57ed0000001"
+nwk_key = "{row:032x}"
+app_key = "00000000000000000000000000000000"
+home = "000013"
+app = "a000000000000001"
+"#
+    )
+}
+
+/// The sections, and as many devices as there may be.
+pub(crate) fn most_devices(alloc: Global) -> Result<String, AllocError> {
+    let mut text = String::from_str(alloc, SECTIONS)?;
+    for row in 0..4096 {
+        let device = scattered_device(alloc, row)?;
+        text.push_str(device.as_str())?;
+    }
+    Ok(text)
+}

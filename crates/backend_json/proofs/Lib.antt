@@ -1,3 +1,4 @@
 pub mod Bodies
 pub mod Escapes
 pub mod Objects
+pub mod KeysWritten

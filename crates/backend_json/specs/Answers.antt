@@ -1,5 +1,5 @@
 -- The texts of answers (TS002, Messages and Payloads): compact JSON, the members in the ascending byte order of their names.
-use Rattle.std.specs.Prelude.{ℕ, List, [], ◌∷◌, ◌++◌, codes, Option, Some, None, option_map, if◌then◌else◌}
+use Rattle.std.specs.Prelude.{◌≡◌, ℕ, ◌&&◌, List, [], ◌∷◌, ◌++◌, codes, Option, Some, None, option_map, if◌then◌else◌}
 use Rattle.std.specs.Int.{w64, to_be_bytes}
 use Rattle.std.specs.Str.{bytes_eq}
 use Rattle.hex.specs.Hex.{encode_lower}
@@ -13,11 +13,14 @@ use Rattle.wire_ids.specs.declared.party.PeerId.{PeerId}
 use Rattle.wire_ids.specs.declared.party.PeerId.TheVariants as peer
 use Rattle.backend_json.specs.declared.head.Head.{Head}
 use Rattle.backend_json.specs.declared.request.SessionKeyId.{SessionKeyId}
+use Rattle.backend_json.specs.declared.refusal.Refusal.{Refusal}
 use Rattle.backend_json.specs.declared.refusal.Refusal.TheVariants as refusal
 use Rattle.backend_json.specs.declared.refusal.ResultCode.{ResultCode}
 use Rattle.backend_json.specs.declared.refusal.ResultCode.TheVariants as code
 use Rattle.backend_json.specs.declared.answer.Answer.{Answer}
 use Rattle.backend_json.specs.declared.answer.AnswerKeys.{AnswerKeys}
+use Rattle.backend_json.specs.declared.answer.AppSKeyAnswer.{AppSKeyAnswer}
+use Rattle.backend_json.specs.declared.answer.JoinAnswer.{JoinAnswer}
 use Rattle.backend_json.specs.declared.answer.KeyEnvelope.{KeyEnvelope}
 use Rattle.backend_json.specs.declared.answer.Outcome.{Outcome}
 use Rattle.backend_json.specs.declared.answer.Outcome.TheVariants.{Refused, JoinAns, AppSKeyAns}
@@ -156,22 +159,46 @@ text_of answer = compact_text (object (members_of (answer_fields answer.head ans
 
 -- ---- the keys of an answer
 
--- a key that an answer has: its member's name, the label of its KEK, and the wrapped key
+-- a key that an answer has: its member's name, the label of its KEK, and the digits of the wrapped key
 pub record KeyField : Type 0 where
   pub name : List ℕ
   pub kek_label : List ℕ
   pub aes_key : List ℕ
 
+-- the key under this name, where the value is a KeyEnvelope: an object of AESKey and KEKLabel
+abbrev pub key_in : List ℕ → Option Data → List KeyField
+key_in name (Some (object (member first (string aes_key) (member second (string kek_label) no_members)))) =
+    if bytes_eq first (codes "AESKey") && bytes_eq second (codes "KEKLabel") then record { name = name; kek_label = kek_label; aes_key = aes_key } ∷ [] else []
+key_in name value = []
+
+-- of these members those that are keys
+abbrev pub keys_in : List Field → List KeyField
+keys_in [] = []
+keys_in (f ∷ rest) = key_in f.name f.value ++ keys_in rest
+
+-- of the members that are written those that are keys
+unfoldable pub key_fields : Answer → List KeyField
+key_fields answer = keys_in (answer_fields answer.head answer.outcome)
+
+-- ---- what these are of each outcome
+
+-- the member of this name, with the label and the bytes of its key
+abbrev pub key_member : List ℕ → List ℕ → List ℕ → KeyField
+key_member name label key = record { name = name; kek_label = label; aes_key = encode_lower key }
+
 abbrev pub key_if : List ℕ → Option KeyEnvelope → List KeyField
 key_if name None = []
-key_if name (Some key) = record { name = name; kek_label = key.kek_label; aes_key = key.aes_key } ∷ []
+key_if name (Some key) = key_member name key.kek_label key.aes_key ∷ []
 
 abbrev pub fields_of_keys : AnswerKeys → List KeyField
 fields_of_keys keys =
-    key_if (codes "FNwkSIntKey") keys.f_nwk_s_int_key
-    ++ (key_if (codes "SNwkSIntKey") keys.s_nwk_s_int_key
+    key_if (codes "AppSKey") keys.app_s_key
+    ++ (key_if (codes "FNwkSIntKey") keys.f_nwk_s_int_key
     ++ (key_if (codes "NwkSEncKey") keys.nwk_s_enc_key
-    ++ key_if (codes "AppSKey") keys.app_s_key))
+    ++ key_if (codes "SNwkSIntKey") keys.s_nwk_s_int_key))
 
-unfoldable pub key_fields : Answer → List KeyField
-key_fields answer = fields_of_keys (keys_of answer.outcome)
+-- the keys that are written are those of the answer, each under its own name, and a refusal has none
+pub record KeysAreWritten : Type 0 where
+  pub refused : (head : Option Head) (cause : Refusal) → key_fields (record { head = head; outcome = Refused cause }) ≡ []
+  pub join : (head : Head) (answer : JoinAnswer) → key_fields (record { head = Some head; outcome = JoinAns answer }) ≡ fields_of_keys answer.keys
+  pub app_s_key : (head : Head) (answer : AppSKeyAnswer) → key_fields (record { head = Some head; outcome = AppSKeyAns answer }) ≡ fields_of_keys answer.keys

@@ -5,6 +5,7 @@ mod answer;
 mod digits;
 mod fields;
 mod head;
+pub mod laws;
 mod member;
 mod message;
 mod refusal;

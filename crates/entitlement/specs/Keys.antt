@@ -1,5 +1,5 @@
 -- Who is entitled to which session keys, and under whose label they are wrapped. FNwkSIntKey, SNwkSIntKey,
--- NwkSEncKey and AppSKey are the session keys of LoRaWAN 1.1, 6.1.2 and 6.1.3.
+-- NwkSEncKey and AppSKey are the session keys of LoRaWAN 1.1, 6.1.2.2 to 6.1.2.5.
 use Rattle.std.specs.Prelude.{ℕ, nat_lt, Bool, if◌then◌else◌, List, [], ◌∷◌, ◌++◌}
 use Rattle.entitlement.specs.declared.roles.AnswerKind.{AnswerKind}
 use Rattle.entitlement.specs.declared.roles.AnswerKind.TheVariants.{JoinAns, RejoinAns, HRStartAns, PRStartAns, AppSKeyAns}

@@ -3,8 +3,9 @@ ghost use Rattle.entitlement.specs.Keys.{entitled, entries_of};
 
 use crate::{AnswerKind, Role};
 
-/// Which session keys an answer carries (LoRaWAN 1.1, 6.1.2 and 6.1.3): FNwkSIntKey, SNwkSIntKey
-/// and NwkSEncKey under the label of the network that asked, and AppSKey under its application's label.
+/// Which session keys an answer carries (LoRaWAN 1.1, 6.1.2.2 to 6.1.2.5): FNwkSIntKey, SNwkSIntKey
+/// and NwkSEncKey under the label of the network that asked, and AppSKey under its application's
+/// label.
 #[derive(Clone, Copy, Debug, PartialEq, Eq)]
 pub struct KeySet {
     pub f: bool,

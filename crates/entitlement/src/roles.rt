@@ -82,7 +82,8 @@ fn party_role(row: &DeviceRow, id: Eui, asked: AnswerKind) -> Role
 }
 
 /// What the sender of a request is to the device of this number, for the answer that it asks for.
-/// The facts are those of the state that the answer's own entry leaves, of this device and this sender.
+/// The facts are those of the state that the answer's own entry leaves, of this device and this
+/// sender.
 pub fn role_of(
     tables: &Tables,
     facts: &Facts,

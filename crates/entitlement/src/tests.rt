@@ -62,7 +62,7 @@ fn facts_at(now: u64) -> Facts {
 }
 
 #[test]
-fn roles_by_the_tables(rt: HostRuntime) -> Result<(), Fail> {
+fn a_role_is_that_of_the_tables(rt: HostRuntime) -> Result<(), Fail> {
     let Ok(tables) = read_tables(rt.alloc(), TABLES) else {
         return Err(Fail::from("tables"));
     };
@@ -97,7 +97,7 @@ fn roles_by_the_tables(rt: HostRuntime) -> Result<(), Fail> {
 }
 
 #[test]
-fn roles_that_end(rt: HostRuntime) -> Result<(), Fail> {
+fn a_role_ends_at_its_moment(rt: HostRuntime) -> Result<(), Fail> {
     let Ok(tables) = read_tables(rt.alloc(), TABLES) else {
         return Err(Fail::from("tables"));
     };
@@ -114,85 +114,77 @@ fn roles_that_end(rt: HostRuntime) -> Result<(), Fail> {
     Ok(())
 }
 
+const NONE: KeySet = KeySet {
+    f: false,
+    s: false,
+    e: false,
+    app: false,
+};
+
+const NETWORK: KeySet = KeySet {
+    f: true,
+    s: true,
+    e: true,
+    app: false,
+};
+
+const CARRIED: KeySet = KeySet {
+    f: true,
+    s: true,
+    e: true,
+    app: true,
+};
+
+const FORWARDED: KeySet = KeySet {
+    f: true,
+    s: false,
+    e: false,
+    app: false,
+};
+
+const APPLICATION: KeySet = KeySet {
+    f: false,
+    s: false,
+    e: false,
+    app: true,
+};
+
+// An answer, its receiver's role, `carry_app` and the Lifetime: the keys.
+const ENTITLED: &[(AnswerKind, Role, bool, u32, KeySet)] = &[
+    (AnswerKind::JoinAns, Role::Home, false, 0, NETWORK),
+    (AnswerKind::RejoinAns, Role::Home, true, 9, CARRIED),
+    (AnswerKind::JoinAns, Role::Stranger, true, 9, NONE),
+    (AnswerKind::HRStartAns, Role::Serving, true, 9, NETWORK),
+    (AnswerKind::HRStartAns, Role::Home, true, 9, NONE),
+    (
+        AnswerKind::PRStartAns,
+        Role::Forwarding,
+        true,
+        600,
+        FORWARDED,
+    ),
+    (AnswerKind::PRStartAns, Role::Forwarding, true, 0, NONE),
+    (
+        AnswerKind::AppSKeyAns,
+        Role::Application,
+        false,
+        0,
+        APPLICATION,
+    ),
+    (AnswerKind::OtherAns, Role::Home, true, 9, NONE),
+];
+
 #[test]
-fn key_sets(rt: HostRuntime) -> Result<(), Fail> {
-    for (asked, role, carry_app, lifetime, want) in [
-        (
-            AnswerKind::JoinAns,
-            Role::Home,
-            false,
-            0,
-            (true, true, true, false),
-        ),
-        (
-            AnswerKind::RejoinAns,
-            Role::Home,
-            true,
-            9,
-            (true, true, true, true),
-        ),
-        (
-            AnswerKind::JoinAns,
-            Role::Stranger,
-            true,
-            9,
-            (false, false, false, false),
-        ),
-        (
-            AnswerKind::HRStartAns,
-            Role::Serving,
-            true,
-            9,
-            (true, true, true, false),
-        ),
-        (
-            AnswerKind::HRStartAns,
-            Role::Home,
-            true,
-            9,
-            (false, false, false, false),
-        ),
-        (
-            AnswerKind::PRStartAns,
-            Role::Forwarding,
-            true,
-            600,
-            (true, false, false, false),
-        ),
-        (
-            AnswerKind::PRStartAns,
-            Role::Forwarding,
-            true,
-            0,
-            (false, false, false, false),
-        ),
-        (
-            AnswerKind::AppSKeyAns,
-            Role::Application,
-            false,
-            0,
-            (false, false, false, true),
-        ),
-        (
-            AnswerKind::OtherAns,
-            Role::Home,
-            true,
-            9,
-            (false, false, false, false),
-        ),
-    ] {
-        let (f, s, e, app) = want;
-        assert_eq!(rt;
-            keys_for(asked, role, carry_app, lifetime),
-            KeySet { f, s, e, app }
-        );
+fn each_role_gets_its_keys(rt: HostRuntime) -> Result<(), Fail> {
+    for (asked, role, carry_app, lifetime, keys) in ENTITLED {
+        assert_eq!(rt; keys_for(*asked, *role, *carry_app, *lifetime), *keys);
     }
     Ok(())
 }
 
 // RFC 3394, 4.1.
 #[test]
-fn envelopes(rt: HostRuntime) -> Result<(), Fail> {
+fn an_envelope_is_the_wrapped_key(rt: HostRuntime) -> Result<(), Fail> {
     let kek = [0, 1, 2, 3, 4, 5, 6, 7, 8, 9, 10, 11, 12, 13, 14, 15];
     let key = [
         0x00, 0x11, 0x22, 0x33, 0x44, 0x55, 0x66, 0x77, 0x88, 0x99, 0xaa, 0xbb, 0xcc, 0xdd, 0xee,

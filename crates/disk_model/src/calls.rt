@@ -1,5 +1,5 @@
 ghost use Rattle.std.specs.Prelude.{◌≡◌, ◌+◌, ◌≤◌, ◌<◌, List, ℕ, [], ◌∷◌, ◌++◌, Option, Some};
-ghost use Rattle.std.specs.Prelude.{length, option_map, vec_len, vec_capacity, IfOk};
+ghost use Rattle.std.specs.Prelude.{◌↔◌, length, option_map, vec_len, vec_capacity, IfOk, IsErr};
 ghost use Rattle.std.specs.VecDeque.{deque_len};
 ghost use Rattle.wire_ids.specs.Causes.{HasCause};
 ghost use Rattle.disk_model.specs.Connections.{Gives, IsOut, TakesBack, out_after};
@@ -63,7 +63,7 @@ pub struct MemoryCalls<I, O> {
 
 impl<I: Source + Drop, O: Sink + Drop> MemoryCalls<I, O> {
     ghost use Rattle.disk_model.specs.CallsInMemory.{calls_left, calls_back, calls_out};
-    ghost use Rattle.disk_model.specs.CallsInMemory.{calls_faults};
+    ghost use Rattle.disk_model.specs.CallsInMemory.{calls_faults, HasPlan};
 
     /// Gives these connections in order, and no call fails.
     pub fn new(alloc: Global, connections: Vec<(I, O)>) -> Result<MemoryCalls<I, O>, Memory>
@@ -71,6 +71,7 @@ impl<I: Source + Drop, O: Sink + Drop> MemoryCalls<I, O> {
         ensures back { IfOk result (λ c. calls_back c ≡ []) }
         ensures out { IfOk result (λ c. calls_out c ≡ 0) }
         ensures faults { IfOk result (λ c. calls_faults c ≡ 0) }
+        ensures plan { IfOk result (λ c. HasPlan c 0 0) }
     {
         MemoryCalls::with(alloc, connections, 0, 0)
     }
@@ -87,6 +88,7 @@ impl<I: Source + Drop, O: Sink + Drop> MemoryCalls<I, O> {
         ensures back { IfOk result (λ c. calls_back c ≡ []) }
         ensures out { IfOk result (λ c. calls_out c ≡ 0) }
         ensures faults { IfOk result (λ c. calls_faults c ≡ 0) }
+        ensures plan { IfOk result (λ c. HasPlan c passes fails) }
     {
         let made = connections.len();
         Ok(MemoryCalls {
@@ -116,7 +118,7 @@ impl<I: Source + Drop, O: Sink + Drop> MemoryCalls<I, O> {
 
 impl<I: Source + Drop, O: Sink + Drop> Calls for MemoryCalls<I, O> {
     ghost use Rattle.disk_model.specs.CallsInMemory.{calls_left, calls_back, calls_out};
-    ghost use Rattle.disk_model.specs.CallsInMemory.{calls_faults};
+    ghost use Rattle.disk_model.specs.CallsInMemory.{calls_faults, HasPlan, IsFailing, FollowsPlan};
 
     type Incoming = I;
 
@@ -130,7 +132,14 @@ impl<I: Source + Drop, O: Sink + Drop> Calls for MemoryCalls<I, O> {
 
     ghost faults = { calls_faults };
 
-    fn next(&mut self) -> Result<Option<(I, O)>, Failed> {
+    fn next(&mut self) -> Result<Option<(I, O)>, Failed>
+        ensures left { Gives (Some (calls_left self.old)) (Some (calls_left self.new)) result }
+        ensures back { calls_back self.new ≡ calls_back self.old }
+        ensures out { calls_out self.new ≡ out_after result (calls_out self.old) }
+        ensures cause { HasCause (calls_faults self.old) (calls_faults self.new) result }
+        ensures fails { IsErr result ↔ IsFailing self.old }
+        ensures plan { FollowsPlan self.old self.new }
+    {
         if self.passes > 0 {
             self.passes -= 1;
         } else if self.fails > 0 {
@@ -141,7 +150,14 @@ impl<I: Source + Drop, O: Sink + Drop> Calls for MemoryCalls<I, O> {
         Ok(self.left.pop_front())
     }
 
-    fn done(&mut self, incoming: I, outgoing: O) {
+    fn done(&mut self, incoming: I, outgoing: O)
+        requires out { 0 < calls_out self.old }
+        ensures left { calls_left self.new ≡ calls_left self.old }
+        ensures back { calls_back self.new ≡ calls_back self.old ++ (incoming, outgoing) ∷ [] }
+        ensures out { calls_out self.new + 1 ≡ calls_out self.old }
+        ensures faults { calls_faults self.new ≡ calls_faults self.old }
+        ensures plan { HasPlan self.new self.old.passes self.old.fails }
+    {
         keep(&mut self.back, (incoming, outgoing));
     }
 }

@@ -76,19 +76,31 @@ impl Disk for ClosedDisk {
 
     ghost faults = { disk_faults };
 
-    fn len(&mut self) -> Result<u64, Failed> {
+    fn len(&mut self) -> Result<u64, Failed>
+        ensures err { IsErr result }
+        ensures cause { HasCause (disk_faults self.old) (disk_faults self.new) result }
+    {
         self.fail()
     }
 
-    fn read(&mut self, at: u64, room: &mut [u8]) -> Result<usize, Failed> {
+    fn read(&mut self, at: u64, room: &mut [u8]) -> Result<usize, Failed>
+        ensures err { IsErr result }
+        ensures cause { HasCause (disk_faults self.old) (disk_faults self.new) result }
+    {
         self.fail()
     }
 
-    fn write_at(&mut self, at: u64, bytes: &[u8]) -> Result<(), Failed> {
+    fn write_at(&mut self, at: u64, bytes: &[u8]) -> Result<(), Failed>
+        ensures err { IsErr result }
+        ensures cause { HasCause (disk_faults self.old) (disk_faults self.new) result }
+    {
         self.fail()
     }
 
-    fn sync(&mut self) -> Result<(), Failed> {
+    fn sync(&mut self) -> Result<(), Failed>
+        ensures err { IsErr result }
+        ensures cause { HasCause (disk_faults self.old) (disk_faults self.new) result }
+    {
         self.fail()
     }
 }

@@ -46,7 +46,7 @@ fn add(heard: &mut Vec<u8>, line: &[u8]) -> Result<(), AllocError> {
 }
 
 #[test]
-fn lines_in_pieces(rt: HostRuntime) -> Result<(), Fail> {
+fn lines_are_heard_whole_from_any_pieces(rt: HostRuntime) -> Result<(), Fail> {
     let alloc = rt.alloc();
     is_send::<Ahead>();
     for (input, want) in [
@@ -66,7 +66,7 @@ fn lines_in_pieces(rt: HostRuntime) -> Result<(), Fail> {
 }
 
 #[test]
-fn faults_and_limits(rt: HostRuntime) -> Result<(), Fail> {
+fn a_fault_or_the_limit_ends_the_lines(rt: HostRuntime) -> Result<(), Fail> {
     let alloc = rt.alloc();
     let input = b"ab\ncd\nef";
     for (limit, passes, fails, want, end) in [
@@ -94,7 +94,7 @@ fn faults_and_limits(rt: HostRuntime) -> Result<(), Fail> {
 }
 
 #[test]
-fn long_lines(rt: HostRuntime) -> Result<(), Fail> {
+fn a_long_line_is_heard_by_its_first_bytes(rt: HostRuntime) -> Result<(), Fail> {
     let alloc = rt.alloc();
     let mut input = Vec::new(alloc);
     let mut want = Vec::new(alloc);

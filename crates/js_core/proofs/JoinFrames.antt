@@ -1,6 +1,7 @@
 -- The fields of a join-request are those of its join form.
-use Rattle.std.proofs.Common.{◌≡◌, ℕ, ◌<◌, ◌^◌, ◌≤◌, ◌+◌, ◌==◌, false, List, ◌++◌, length, take, drop, get_or, slice_index_or, Option, Some, None, refl, sym, subst, arith, inl, inr, length-drop, slice_index, eqb-true}
+use Rattle.std.proofs.Common.{◌≡◌, ℕ, ◌<◌, ◌^◌, ◌≤◌, ◌+◌, ◌==◌, false, List, All, ◌++◌, length, take, drop, get_or, slice_index_or, Option, Some, None, refl, sym, subst, arith, inl, inr, length-drop, slice_index, eqb-true}
 use Rattle.std.proofs.lemmas.Bool.{cases_Bool, cases_lt}
+use Rattle.std.proofs.lemmas.List.Elements.{All-get_or}
 use Rattle.std.proofs.lemmas.List.{length-take, get_or-take, get_or-drop, get_or_past}
 use Rattle.std.proofs.lemmas.Nat.{from_le_bytes-to_le_bytes_2, from_le_bytes-to_le_bytes_8, le_bytes_2, le_bytes_8}
 use Rattle.std.specs.Int.{w16, w64, from_le_bytes}
@@ -12,7 +13,7 @@ use Rattle.join_frames.specs.JoinForms.{HasJoinSize, JoinFault, JoinForm, join_f
 use Rattle.join_frames.specs.declared.join_up.JoinUp.{JoinUp}
 use Rattle.join_frames.specs.declared.join_up.JoinUp.TheVariants.{Join, Rejoin02, Rejoin1}
 use Rattle.js_core.specs.declared.frames.JoinFrame.{JoinFrame}
-use Rattle.js_core.specs.Frames.{join_frame_of}
+use Rattle.js_core.specs.Frames.{JoinFramesRead, join_frame_of}
 
 same_frame : (a b a' b' n n' : ℕ) → a ≡ a' → b ≡ b' → n ≡ n'
     → (let left : Option JoinFrame = Some (record { join_eui = record { 0 = a }; dev_eui = record { 0 = b }; dev_nonce = n }) in
@@ -89,10 +90,13 @@ by_first : (s : List ℕ) → (slice_index s 0 == 0) ≡ false → join_frame_of
 unfolding join_frame_of
 by_first s e = elim (cases_Bool (length s == 23)) [ inl long ↦ rw (long, e) refl | inr short ↦ rw short refl ]
 
-no_form : (s : List ℕ) → ((k : ℕ) → get_or s k 0 < 256) → ((v : JoinUp) → ¬ JoinForm s v) → join_frame_of s ≡ None
+abbrev HasNoJoinForm : List ℕ → Type 0
+HasNoJoinForm s = (e d : Eui) (n : ℕ) (mic : List ℕ) → ¬ JoinForm s (Join e d n mic)
+
+no_form : (s : List ℕ) → ((k : ℕ) → get_or s k 0 < 256) → HasNoJoinForm s → join_frame_of s ≡ None
 no_form s bytes none = elim (cases_Bool (length s == 23)) [
   | inl long ↦ elim (cases_Bool (slice_index s 0 == 0)) [
-    | inl first ↦ absurd (none (form_of s) (form_there s (eqb-true _ _ long) (eqb-true _ _ first) bytes))
+    | inl first ↦ absurd (none _ _ _ _ (form_there s (eqb-true _ _ long) (eqb-true _ _ first) bytes))
     | inr other ↦ by_first s other
   ]
   | inr other ↦ by_length s other
@@ -103,4 +107,10 @@ other_length s none = elim (cases_Bool (length s == 23)) [ inl e ↦ absurd (non
 
 pub fault_read : (s : List ℕ) (fault : FrameFault) → ((k : ℕ) → get_or s k 0 < 256) → JoinFault s fault → join_frame_of s ≡ None
 fault_read s (Size got) bytes f = by_length s (other_length s f.1)
-fault_read s Form bytes f = no_form s bytes f.1
+fault_read s Form bytes f = no_form s bytes (λ e d n mic. f.1 (Join e d n mic))
+
+byte_at : (s : List ℕ) → All (λ b. b < 256) s → (k : ℕ) → get_or s k 0 < 256
+byte_at s bytes k = elim (cases_lt k (length s)) [ inl within ↦ All-get_or (λ b. b < 256) s k 0 within bytes | inr past ↦ rw (get_or_past s k 0 past) (omega arith) ]
+
+pub join_frames_read : JoinFramesRead
+join_frames_read = record { join = join_read; none = λ frame bytes none. no_form frame (byte_at frame bytes) none }

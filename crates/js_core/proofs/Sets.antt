@@ -1,16 +1,22 @@
 -- The entries of a set of keys are those that it has.
-use Rattle.std.proofs.Common.{◌≡◌, Bool, true, false, refl}
+use Rattle.std.proofs.Common.{◌≡◌, ℕ, List, Bool, true, false, refl}
 use Rattle.std.specs.List.{list_any}
 use Rattle.entitlement.specs.Keys.{entries_of}
 use Rattle.entitlement.specs.declared.keys.KeySet.{KeySet}
-use Rattle.js_core.specs.Replies.{is_app_key, is_e, is_f, is_s}
+use Rattle.wire_ids.specs.declared.keys.RootKeys.{RootKeys}
+use Rattle.wire_ids.specs.declared.keys.Seed.{Seed}
+use Rattle.key_vault.specs.Keys.{app_session_key, network_keys}
+use Rattle.key_vault.specs.Table.{app_at, nwk_at}
+use Rattle.agreements.specs.Walk.{Config}
+use Rattle.agreements.specs.declared.rows.DeviceRow.{DeviceRow}
+use Rattle.js_core.specs.Replies.{answer_keys, for_application, for_network, is_app_s_key, is_nwk_s_enc_key, is_f_nwk_s_int_key, is_s_nwk_s_int_key, where_set}
 
 abbrev set_of : Bool → Bool → Bool → Bool → KeySet
 set_of f s e app = record { f = f; s = s; e = e; app = app }
 
 flags : (f s e app : Bool)
-    → (list_any is_f (entries_of (set_of f s e app)) ≡ f) × (list_any is_s (entries_of (set_of f s e app)) ≡ s)
-    × (list_any is_e (entries_of (set_of f s e app)) ≡ e) × (list_any is_app_key (entries_of (set_of f s e app)) ≡ app)
+    → (list_any is_f_nwk_s_int_key (entries_of (set_of f s e app)) ≡ f) × (list_any is_s_nwk_s_int_key (entries_of (set_of f s e app)) ≡ s)
+    × (list_any is_nwk_s_enc_key (entries_of (set_of f s e app)) ≡ e) × (list_any is_app_s_key (entries_of (set_of f s e app)) ≡ app)
 flags true true true true = (refl, refl, refl, refl)
 flags true true true false = (refl, refl, refl, refl)
 flags true true false true = (refl, refl, refl, refl)
@@ -28,14 +34,14 @@ flags false false true false = (refl, refl, refl, refl)
 flags false false false true = (refl, refl, refl, refl)
 flags false false false false = (refl, refl, refl, refl)
 
-pub has_f : (k : KeySet) → list_any is_f (entries_of k) ≡ k.f
-has_f k = (flags k.f k.s k.e k.app).0
-
-pub has_s : (k : KeySet) → list_any is_s (entries_of k) ≡ k.s
-has_s k = (flags k.f k.s k.e k.app).1
-
-pub has_e : (k : KeySet) → list_any is_e (entries_of k) ≡ k.e
-has_e k = (flags k.f k.s k.e k.app).2
-
-pub has_app : (k : KeySet) → list_any is_app_key (entries_of k) ≡ k.app
-has_app k = (flags k.f k.s k.e k.app).3
+pub keys_of_set : (c : Config) (keys : List RootKeys) (at : ℕ) (row : DeviceRow) (seed : Seed) (set : KeySet)
+    → answer_keys c keys at row seed (entries_of set) ≡ (record {
+      f_nwk_s_int_key = where_set set.f (for_network c row.home (network_keys (nwk_at keys at) seed).f);
+      s_nwk_s_int_key = where_set set.s (for_network c row.home (network_keys (nwk_at keys at) seed).s);
+      nwk_s_enc_key = where_set set.e (for_network c row.home (network_keys (nwk_at keys at) seed).e);
+      app_s_key = where_set set.app (for_application c row.app (app_session_key (app_at keys at) seed));
+    })
+unfolding answer_keys
+keys_of_set c keys at row seed set =
+    let has = flags set.f set.s set.e set.app in
+    rw (has.0, has.1, has.2, has.3) refl

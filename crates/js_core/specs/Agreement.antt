@@ -1,7 +1,9 @@
 -- The keys of an answer are those that the entitlement table gives its receiver, each wrapped under the KEK of its own label.
-use Rattle.std.specs.Prelude.{◌≡◌, ℕ, List, [], map, slice_get, All, Option, Some, None, codes}
+use Rattle.std.specs.Prelude.{◌≡◌, ℕ, List, [], ◌++◌, filter, map, slice_get, All, Option, Some, None, codes}
 use Rattle.wire_ids.specs.declared.keys.RootKeys.{RootKeys}
 use Rattle.wire_ids.specs.declared.keys.Seed.{Seed}
+use Rattle.wire_ids.specs.declared.party.Sender.{Sender}
+use Rattle.wire_ids.specs.declared.party.Sender.TheVariants.{Network, Party}
 use Rattle.key_vault.specs.Keys.{app_session_key, network_keys}
 use Rattle.key_vault.specs.Table.{app_at, nwk_at}
 use Rattle.agreements.specs.Walk.{Config}
@@ -9,9 +11,10 @@ use Rattle.agreements.specs.LookUps.{Belongs, device_place}
 use Rattle.agreements.specs.declared.rows.DeviceRow.{DeviceRow}
 use Rattle.agreements.specs.declared.rows.ApplicationRow.{ApplicationRow}
 use Rattle.agreements.specs.declared.rows.NetworkRow.{NetworkRow}
-use Rattle.backend_json.specs.Answers.{KeyField, key_fields}
+use Rattle.backend_json.specs.Answers.{KeyField, key_fields, key_member}
 use Rattle.backend_json.specs.declared.answer.Answer.{Answer}
 use Rattle.backend_json.specs.declared.answer.AppSKeyAnswer.{AppSKeyAnswer}
+use Rattle.backend_json.specs.declared.answer.JoinAnswer.{JoinAnswer}
 use Rattle.backend_json.specs.declared.answer.Outcome.TheVariants.{AppSKeyAns, JoinAns, Refused}
 use Rattle.backend_json.specs.declared.head.Head.{Head}
 use Rattle.entitlement.specs.Fields.{Envelope, fields_of}
@@ -25,7 +28,7 @@ use Rattle.js_core.specs.declared.kept.KeptDevice.{KeptDevice}
 use Rattle.js_core.specs.declared.kept.KeptSeed.{KeptSeed}
 use Rattle.js_core.specs.Machine.{Machine}
 use Rattle.js_core.specs.Parties.{application_named, network_of}
-use Rattle.js_core.specs.Replies.{entries_for, seed_with}
+use Rattle.js_core.specs.Replies.{entries_for, is_app_s_key, is_nwk_s_enc_key, is_f_nwk_s_int_key, is_s_nwk_s_int_key, seed_with}
 use Rattle.js_core.specs.Step.{decided}
 
 -- ---- whose label, and which key
@@ -38,10 +41,15 @@ abbrev pub application_envelope : Option ApplicationRow → Envelope
 application_envelope None = record { label = []; kek = [] }
 application_envelope (Some application) = record { label = application.kek_label; kek = application.kek }
 
--- the label and KEK of the device's home network, or of its application
-abbrev pub envelope_of : Config → DeviceRow → LabelOwner → Envelope
-envelope_of c row TheNetwork = network_envelope (network_of c row.home)
-envelope_of c row TheApplication = application_envelope (application_named c row.app)
+-- the label and KEK of the network that receives the answer
+abbrev pub receiver_envelope : Config → Sender → Envelope
+receiver_envelope c (Network net) = network_envelope (network_of c net)
+receiver_envelope c (Party id) = network_envelope None
+
+-- the label and KEK of the network that receives the answer, or of the device's application
+abbrev pub envelope_of : Config → DeviceRow → Sender → LabelOwner → Envelope
+envelope_of c row receiver TheNetwork = receiver_envelope c receiver
+envelope_of c row receiver TheApplication = application_envelope (application_named c row.app)
 
 -- the session key of this name (LoRaWAN 1.1, 6.2.3)
 abbrev pub session_key : List RootKeys → ℕ → Seed → KeyName → List ℕ
@@ -58,21 +66,29 @@ member_name NwkSEncKey = codes "NwkSEncKey"
 member_name AppSKey = codes "AppSKey"
 
 abbrev pub member_of : entitlement.KeyField → KeyField
-member_of field = record { name = member_name field.name; kek_label = field.label; aes_key = field.aes_key }
+member_of field = key_member (member_name field.name) field.label field.aes_key
+
+-- in the order of an answer's members: AppSKey, FNwkSIntKey, NwkSEncKey, SNwkSIntKey
+abbrev pub in_member_order : List Entry → List Entry
+in_member_order entries = filter is_app_s_key entries ++ (filter is_f_nwk_s_int_key entries ++ (filter is_nwk_s_enc_key entries ++ filter is_s_nwk_s_int_key entries))
 
 -- the key members for these entries of the table: the session's key of that name, wrapped under the KEK of its owner's label
-abbrev pub entitled_fields : Config → List RootKeys → ℕ → DeviceRow → Seed → List Entry → List KeyField
-entitled_fields c keys at row seed entries = map member_of (fields_of (session_key keys at seed) (envelope_of c row) entries)
+abbrev pub entitled_fields : Config → List RootKeys → ℕ → DeviceRow → Sender → Seed → List Entry → List KeyField
+entitled_fields c keys at row receiver seed entries = map member_of (fields_of (session_key keys at seed) (envelope_of c row receiver) (in_member_order entries))
 
 -- ---- an answer agrees with the table
 
--- the JoinAns of the join that was just accepted: the keys of its seed, for the role of its receiver
+-- the JoinAns of the join that was just accepted: the keys of its seed, for the role of its receiver. Its SessionKeyID
+-- names the device and that seed's JoinNonce
 pub record JoinAgrees (c : Config) (keys : List RootKeys) (reply : Answer) (join : AcceptedJoin) : Type 0 where
   pub head : Head
   pub row : DeviceRow
+  pub members : JoinAnswer
   pub is_head : reply.head ≡ Some head
+  pub is_answer : reply.outcome ≡ JoinAns members
   pub is_row : slice_get c.devices join.device ≡ Some row
-  pub fields : key_fields reply ≡ entitled_fields c keys join.device row join.seed (entries_for row head.sender answer.JoinAns c.desk.lifetime_s)
+  pub is_session : members.session_key_id ≡ record { dev_eui = row.dev_eui; join_nonce = join.seed.nonce }
+  pub fields : key_fields reply ≡ entitled_fields c keys join.device row head.sender join.seed (entries_for row head.sender answer.JoinAns c.desk.lifetime_s)
 
 -- an AppSKeyAns: the key of the kept seed that its SessionKeyID names, for the role of its receiver
 pub record AppSKeyAgrees (c : Config) (keys : List RootKeys) (m : Machine) (reply : Answer) (members : AppSKeyAnswer) : Type 0 where
@@ -82,11 +98,12 @@ pub record AppSKeyAgrees (c : Config) (keys : List RootKeys) (m : Machine) (repl
   pub kept : KeptDevice
   pub seed : KeptSeed
   pub is_head : reply.head ≡ Some head
+  pub is_session : members.session_key_id.dev_eui ≡ members.dev_eui
   pub is_place : device_place members.dev_eui c.devices ≡ Some at
   pub is_row : slice_get c.devices at ≡ Some row
   pub is_kept : slice_get m.devices at ≡ Some kept
   pub is_seed : seed_with members.session_key_id.join_nonce kept ≡ Some seed
-  pub fields : key_fields reply ≡ entitled_fields c keys at row seed.seed (entries_for row head.sender answer.AppSKeyAns 0)
+  pub fields : key_fields reply ≡ entitled_fields c keys at row head.sender seed.seed (entries_for row head.sender answer.AppSKeyAns 0)
 
 -- a refusal has no key; a JoinAns comes with the join that it accepts
 abbrev pub ReplyAgrees : Config → List RootKeys → Machine → Answer → Type 0
@@ -100,7 +117,10 @@ abbrev pub Agrees : Config → List RootKeys → Machine → Decision → Type 0
 Agrees c keys m (decision.Reply reply) = ReplyAgrees c keys m reply
 Agrees c keys m (decision.Accept reply join) = JoinAgrees c keys reply join
 
--- each answer agrees, whatever the line and the state, with the tables of a valid text
+-- over these tables each answer agrees, whatever the root keys, the state and the line
+abbrev pub StepsAgree : Config → Type 0
+StepsAgree c = (keys : List RootKeys) (m : Machine) (line : List ℕ) → Agrees c keys m (decided c keys m line)
+
+-- it is so over the tables of each valid text
 abbrev pub AnswersAgree : Type 0
-AnswersAgree = (c : Config) (keys : List RootKeys) (m : Machine) (line : List ℕ)
-    → All (Belongs c.desk.net_id c.networks c.applications) c.devices → Agrees c keys m (decided c keys m line)
+AnswersAgree = (c : Config) → All (Belongs c.desk.net_id c.networks c.applications) c.devices → StepsAgree c

@@ -1,9 +1,12 @@
 -- The sizes of frames, the fields of a join-request, and the members that go with it (LoRaWAN 1.1).
-use Rattle.std.specs.Prelude.{ℕ, ◌+◌, ◌/◌, ◌%◌, ◌==◌, ◌&&◌, ◌||◌, nat_le, nat_lt, not, List, length, take, drop, slice_index, Option, Some, None, Bool, true, codes, if◌then◌else◌}
+use Rattle.std.specs.Prelude.{◌≡◌, ℕ, ◌<◌, ◌+◌, ◌/◌, ◌%◌, ◌==◌, ◌&&◌, ◌||◌, nat_le, nat_lt, not, List, All, length, take, drop, slice_index, Option, Some, None, Bool, true, codes, if◌then◌else◌}
 use Rattle.std.specs.Char.{is_ascii_digit}
 use Rattle.std.specs.List.{list_all}
 use Rattle.std.specs.Str.{bytes_eq}
 use Rattle.std.specs.Int.{w16, w64, from_le_bytes}
+use Rattle.wire_ids.specs.declared.eui.Eui.{Eui}
+use Rattle.join_frames.specs.JoinForms.{JoinForm}
+use Rattle.join_frames.specs.declared.join_up.JoinUp.TheVariants.{Join}
 use Rattle.js_core.specs.declared.frames.JoinFrame.{JoinFrame}
 
 -- the size of a data frame: 12 to 255 bytes, which hold the FOpts that its FCtrl counts (4.3.1)
@@ -39,3 +42,10 @@ join_frame_of frame =
       dev_eui = record { 0 = from_le_bytes w64 (take 8 (drop 9 frame)) };
       dev_nonce = from_le_bytes w16 (take 2 (drop 17 frame));
     }) else None) else None
+
+-- these are the fields of each frame with the form of a join-request, and there are none of other bytes
+pub record JoinFramesRead : Type 0 where
+  pub join : (frame : List ℕ) (join_eui dev_eui : Eui) (dev_nonce : ℕ) (mic : List ℕ) → JoinForm frame (Join join_eui dev_eui dev_nonce mic)
+      → join_frame_of frame ≡ Some (record { join_eui = join_eui; dev_eui = dev_eui; dev_nonce = dev_nonce })
+  pub none : (frame : List ℕ) → All (λ b. b < 256) frame
+      → ((join_eui dev_eui : Eui) (dev_nonce : ℕ) (mic : List ℕ) → ¬ JoinForm frame (Join join_eui dev_eui dev_nonce mic)) → join_frame_of frame ≡ None

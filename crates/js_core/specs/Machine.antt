@@ -18,7 +18,7 @@ new_device = record { last_dev_nonce = None; last_join_nonce = 0; seeds = record
 
 -- a join was accepted: its DevNonce and JoinNonce are the last ones, and of its seed and the ones before it the four newest are kept
 unfoldable pub joined : Seed → KeptDevice → KeptDevice
-joined seed d = record { last_dev_nonce = Some seed.counter; last_join_nonce = seed.nonce; seeds = record { items = take 4 (record { seed = seed } ∷ d.seeds.items) } }
+joined seed d = record d { last_dev_nonce = Some seed.counter; last_join_nonce = seed.nonce; seeds = record { items = take 4 (record { seed = seed } ∷ d.seeds.items) } }
 
 abbrev pub with_changed : {X : Type 0} → List X → ℕ → (X → X) → Option X → List X
 with_changed xs i f None = xs

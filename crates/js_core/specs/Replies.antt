@@ -72,26 +72,26 @@ for_application c app key = option_map (λ (a : ApplicationRow). sealed_by a.kek
 abbrev pub where_set : Bool → Option KeyEnvelope → Option KeyEnvelope
 where_set set envelope = if set then envelope else None
 
--- whether a list of entitled keys has the key of this name
-abbrev pub is_f : Entry → Bool
-is_f entry = elim entry.0 [ FNwkSIntKey ↦ true | SNwkSIntKey ↦ false | NwkSEncKey ↦ false | AppSKey ↦ false ]
+-- which key an entry of the table is
+abbrev pub is_f_nwk_s_int_key : Entry → Bool
+is_f_nwk_s_int_key entry = elim entry.0 [ FNwkSIntKey ↦ true | SNwkSIntKey ↦ false | NwkSEncKey ↦ false | AppSKey ↦ false ]
 
-abbrev pub is_s : Entry → Bool
-is_s entry = elim entry.0 [ FNwkSIntKey ↦ false | SNwkSIntKey ↦ true | NwkSEncKey ↦ false | AppSKey ↦ false ]
+abbrev pub is_s_nwk_s_int_key : Entry → Bool
+is_s_nwk_s_int_key entry = elim entry.0 [ FNwkSIntKey ↦ false | SNwkSIntKey ↦ true | NwkSEncKey ↦ false | AppSKey ↦ false ]
 
-abbrev pub is_e : Entry → Bool
-is_e entry = elim entry.0 [ FNwkSIntKey ↦ false | SNwkSIntKey ↦ false | NwkSEncKey ↦ true | AppSKey ↦ false ]
+abbrev pub is_nwk_s_enc_key : Entry → Bool
+is_nwk_s_enc_key entry = elim entry.0 [ FNwkSIntKey ↦ false | SNwkSIntKey ↦ false | NwkSEncKey ↦ true | AppSKey ↦ false ]
 
-abbrev pub is_app_key : Entry → Bool
-is_app_key entry = elim entry.0 [ FNwkSIntKey ↦ false | SNwkSIntKey ↦ false | NwkSEncKey ↦ false | AppSKey ↦ true ]
+abbrev pub is_app_s_key : Entry → Bool
+is_app_s_key entry = elim entry.0 [ FNwkSIntKey ↦ false | SNwkSIntKey ↦ false | NwkSEncKey ↦ false | AppSKey ↦ true ]
 
 -- the keys of these entries
 unfoldable pub answer_keys : Config → List RootKeys → ℕ → DeviceRow → Seed → List Entry → AnswerKeys
 answer_keys c keys at row seed entries = record {
-  f_nwk_s_int_key = where_set (list_any is_f entries) (for_network c row.home (network_keys (nwk_at keys at) seed).f);
-  s_nwk_s_int_key = where_set (list_any is_s entries) (for_network c row.home (network_keys (nwk_at keys at) seed).s);
-  nwk_s_enc_key = where_set (list_any is_e entries) (for_network c row.home (network_keys (nwk_at keys at) seed).e);
-  app_s_key = where_set (list_any is_app_key entries) (for_application c row.app (app_session_key (app_at keys at) seed));
+  f_nwk_s_int_key = where_set (list_any is_f_nwk_s_int_key entries) (for_network c row.home (network_keys (nwk_at keys at) seed).f);
+  s_nwk_s_int_key = where_set (list_any is_s_nwk_s_int_key entries) (for_network c row.home (network_keys (nwk_at keys at) seed).s);
+  nwk_s_enc_key = where_set (list_any is_nwk_s_enc_key entries) (for_network c row.home (network_keys (nwk_at keys at) seed).e);
+  app_s_key = where_set (list_any is_app_s_key entries) (for_application c row.app (app_session_key (app_at keys at) seed));
 }
 
 -- nothing of roaming is known of any device
@@ -161,9 +161,12 @@ app_s_key_answer c keys head request at row seed = record {
 abbrev pub seed_with : ℕ → KeptDevice → Option KeptSeed
 seed_with nonce kept = find (has_nonce nonce) kept.seeds.items
 
+abbrev pub app_s_key_reply : Config → List RootKeys → Head → AppSKeyRequest → ℕ → DeviceRow → Seed → Decision
+app_s_key_reply c keys head request at row seed = decision.Reply (app_s_key_answer c keys head request at row seed)
+
 abbrev pub app_s_key_success_with : Config → List RootKeys → Head → AppSKeyRequest → ℕ → DeviceRow → Option KeptSeed → Decision
 app_s_key_success_with c keys head request at row None = decision.Reply (refused (Some head) cause.Session)
-app_s_key_success_with c keys head request at row (Some kept) = decision.Reply (app_s_key_answer c keys head request at row kept.seed)
+app_s_key_success_with c keys head request at row (Some kept) = app_s_key_reply c keys head request at row kept.seed
 
 abbrev pub app_s_key_success_at : Config → List RootKeys → Head → AppSKeyRequest → Option ℕ → Option DeviceRow → Option KeptDevice → Decision
 app_s_key_success_at c keys head request (Some at) (Some row) (Some kept) =

@@ -1,5 +1,5 @@
 -- The rules by which requests are refused, in their order: the first that holds gives the answer.
-use Rattle.std.specs.Prelude.{ℕ, ◌==◌, ◌||◌, nat_le, not, List, [], ◌∷◌, take, drop, slice_get, Option, Some, None, Bool, true, false, is_none}
+use Rattle.std.specs.Prelude.{◌≡◌, ℕ, ◌==◌, ◌||◌, nat_le, not, List, [], ◌∷◌, map, take, drop, slice_get, Option, Some, None, Bool, true, false, is_none}
 use Rattle.std.specs.List.{list_any}
 use Rattle.std.specs.Str.{bytes_eq}
 use Rattle.wire_ids.specs.Rules.{Rule}
@@ -9,6 +9,7 @@ use Rattle.join_frames.specs.Mics.{mic}
 use Rattle.agreements.specs.Walk.{Config}
 use Rattle.agreements.specs.LookUps.{device_place}
 use Rattle.agreements.specs.declared.rows.DeviceRow.{DeviceRow}
+use Rattle.backend_json.specs.Refusals.{number_of}
 use Rattle.backend_json.specs.declared.head.Head.{Head}
 use Rattle.backend_json.specs.declared.request.JoinRequest.{JoinRequest}
 use Rattle.backend_json.specs.declared.request.AppSKeyRequest.{AppSKeyRequest}
@@ -127,3 +128,17 @@ unknown_rules c head =
     ∷ record { cause = Receiver; holds = not (is_own c head.receiver) }
     ∷ record { cause = «Type»; holds = true }
     ∷ []
+
+-- ---- the order of the rules
+
+-- the causes' numbers in the table of the refusals
+abbrev pub numbers : List (Rule Refusal) → List ℕ
+numbers rules = map (λ (r : Rule Refusal). number_of r.cause) rules
+
+-- the rules of each message stand in the order of that table
+pub record CausesAscend : Type 0 where
+  pub join : (c : Config) (keys : List RootKeys) (m : Machine) (head : Head) (request : JoinRequest)
+      → numbers (join_rules c keys m head request) ≡ 3 ∷ 4 ∷ 5 ∷ 8 ∷ 9 ∷ 10 ∷ 12 ∷ 18 ∷ 19 ∷ 20 ∷ 21 ∷ []
+  pub app_s_key : (c : Config) (m : Machine) (head : Head) (request : AppSKeyRequest)
+      → numbers (app_s_key_rules c m head request) ≡ 3 ∷ 4 ∷ 5 ∷ 10 ∷ 27 ∷ []
+  pub unknown : (c : Config) (head : Head) → numbers (unknown_rules c head) ≡ 3 ∷ 4 ∷ 5 ∷ []

@@ -3,7 +3,8 @@
 ghost use Rattle.std.specs.Prelude.{◌≡◌, ◌<◌, length, IfSome};
 ghost use Rattle.std.specs.List.{list_all};
 ghost use Rattle.std.specs.Char.{is_ascii_digit};
-ghost use Rattle.js_core.specs.Frames.{join_frame_of, is_cf_list, is_data_sized, is_dl_settings, is_mac_version, is_sized_as, wrong_size};
+ghost use Rattle.js_core.specs.Frames.{join_frame_of, is_cf_list, is_data_sized, is_dl_settings};
+ghost use Rattle.js_core.specs.Frames.{is_mac_version, is_sized_as, wrong_size};
 
 use join_frames::{JoinUp, read_up};
 use wire_ids::Eui;

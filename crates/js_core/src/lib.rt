@@ -11,9 +11,11 @@ mod parties;
 mod rules;
 mod state;
 mod step;
+#[cfg(test)]
+mod tests;
 
 pub use decision::{AcceptedJoin, Decision};
 pub use frames::JoinFrame;
 pub use kept::{KeptDevice, KeptSeed};
 pub use state::State;
-pub use step::answer;
+pub use step::{answer, steps_agree};

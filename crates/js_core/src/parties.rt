@@ -1,7 +1,8 @@
 //! Who may send a request, and to whom.
 
 ghost use Rattle.std.specs.Prelude.{◌≡◌};
-ghost use Rattle.js_core.specs.Parties.{is_app, is_application, is_known, is_net, is_network, is_own, is_own_join_server};
+ghost use Rattle.js_core.specs.Parties.{is_app, is_application, is_known, is_net, is_network};
+ghost use Rattle.js_core.specs.Parties.{is_own, is_own_join_server};
 
 use agreements::Tables;
 use wire_ids::{Eui, NetId, PeerId, Sender};

@@ -1,11 +1,20 @@
 //! The rules by which requests are refused, each a test of its own.
 
-ghost use Rattle.std.specs.Prelude.{◌≡◌, ◌<◌, length, map, Some};
+ghost use Rattle.std.specs.Prelude.{◌≡◌, ◌<◌, List, length, map, slice_get, is_none};
+ghost use Rattle.std.specs.Prelude.{IfErr, IfOk, IfSome, MatchOption, None, Some, true, false};
+ghost use Rattle.std.specs.List.{find};
+ghost use Rattle.std.specs.Option.{option_copied};
 ghost use Rattle.wire_ids.specs.Rules.{first_rule};
+ghost use Rattle.wire_ids.specs.declared.keys.RootKeys.{RootKeys};
 ghost use Rattle.agreements.specs.LookUps.{keys_of};
+ghost use Rattle.js_core.specs.Frames.{join_frame_of};
 ghost use Rattle.js_core.specs.Machine.{IsOf};
-ghost use Rattle.std.specs.List.{list_any};
-ghost use Rattle.js_core.specs.Rules.{app_s_key_rules, has_nonce, is_spent, join_rules, low_counter, unknown_rules, wrong_app, wrong_home, wrong_join_eui, wrong_member, wrong_mic, wrong_session};
+ghost use Rattle.js_core.specs.Replies.{accepted, app_s_key_reply, app_s_key_success};
+ghost use Rattle.js_core.specs.Replies.{join_success, next_seed, seed_with};
+ghost use Rattle.js_core.specs.Rules.{app_s_key_rules, has_nonce, is_spent, join_rules};
+ghost use Rattle.js_core.specs.Rules.{low_counter, unknown_rules, wrong_app, wrong_frame};
+ghost use Rattle.js_core.specs.Rules.{wrong_home, wrong_join_eui, wrong_member, wrong_mic};
+ghost use Rattle.js_core.specs.Rules.{wrong_session};
 
 use crate::frames::{
     JoinFrame, is_cf_list, is_dl_settings, is_mac_version, join_frame, wrong_size,
@@ -18,7 +27,7 @@ use agreements::{DeviceRow, Tables};
 use backend_json::{AppSKeyRequest, Head, JoinRequest, Refusal};
 use join_frames::join_mic_ok;
 use key_vault::{BlockFn, Vault};
-use wire_ids::Nonce24;
+use wire_ids::{Nonce24, Seed};
 
 // Whether a member doesn't go with the join-request.
 fn wrong_member(request: &JoinRequest, frame: &JoinFrame) -> bool
@@ -28,6 +37,23 @@ fn wrong_member(request: &JoinRequest, frame: &JoinFrame) -> bool
         || !is_dl_settings(request.dl_settings)
         || !is_cf_list(&request.cf_list)
         || request.dev_eui.0 != frame.dev_eui.0
+}
+
+// The join-request of this request, where its members go with it.
+#[tactic(auto, unfolding(crate::specs::Rules::wrong_frame))]
+fn fitting_frame(request: &JoinRequest) -> Option<JoinFrame>
+    ensures frame { IfSome result (λ f. Some f ≡ join_frame_of request.now.phy_payload) }
+    ensures size { IfSome result (λ _. length request.now.phy_payload ≡ 23) }
+    ensures fits { is_none result
+        ≡ wrong_frame request.now (join_frame_of request.now.phy_payload) }
+{
+    let Some(frame) = join_frame(request.phy_payload.as_slice()) else {
+        return None;
+    };
+    if wrong_member(request, &frame) {
+        return None;
+    }
+    Some(frame)
 }
 
 // Whether the sender isn't the device's home network.
@@ -69,64 +95,76 @@ fn low_counter(frame: &JoinFrame, kept: &KeptDevice) -> bool
     }
 }
 
-// Whether the last JoinNonce was given out.
-fn is_spent(kept: &KeptDevice) -> bool
-    ensures { result ≡ is_spent kept.now }
+// The seed of the device's next activation, and None where the last JoinNonce was given out.
+fn next_seed(frame: &JoinFrame, row: &DeviceRow, kept: &KeptDevice) -> Option<Seed>
+    ensures { MatchOption result (is_spent kept.now ≡ true)
+        (λ s. (is_spent kept.now ≡ false) × (s ≡ next_seed frame.now row.now kept.now)) }
 {
-    kept.last_join_nonce.get() == 0xFF_FFFF
+    let nonce = Nonce24::new(kept.last_join_nonce.get() + 1)?;
+    Some(Seed {
+        nonce,
+        join_eui: row.join_eui,
+        counter: frame.dev_nonce,
+    })
 }
 
-/// The first cause for which a JoinReq is refused.
-#[tactic(auto, unfolding(crate::specs::Rules::join_rules, crate::specs::Rules::wrong_frame))]
-pub(crate) fn join_refusal<E: BlockFn, D: BlockFn>(
-    tables: &Tables,
+/// The number and the row of the device of a JoinReq, and the seed of its session, or the first
+/// cause for which it is refused.
+#[tactic(auto, unfolding(crate::specs::Rules::join_rules, crate::specs::Replies::join_success))]
+pub(crate) fn join_target<'a, E: BlockFn, D: BlockFn>(
+    tables: &'a Tables,
     vault: &Vault<E, D>,
     state: &State,
     head: &Head,
     request: &JoinRequest,
-) -> Option<Refusal>
+) -> Result<(u32, &'a DeviceRow, Seed), Refusal>
     requires keys { vault.now ≡ map keys_of tables.now.devices }
     requires rows { IsOf tables.now state.now }
-    ensures { result ≡ first_rule (join_rules tables.now vault.now state.now head.now request.now) }
+    ensures refused { IfErr result (λ r.
+        first_rule (join_rules tables.now vault.now state.now head.now request.now) ≡ Some r) }
+    ensures accepted { IfOk result (λ t.
+        first_rule (join_rules tables.now vault.now state.now head.now request.now) ≡ None) }
+    ensures row { IfOk result (λ t. (t.0 < length tables.now.devices)
+        × (slice_get tables.now.devices t.0 ≡ Some t.1.now)) }
+    ensures success { IfOk result (λ t.
+        join_success tables.now vault.now state.now head.now request.now
+        ≡ accepted tables.now vault.now head.now request.now t.0 t.1.now t.2) }
 {
     if !is_known(tables, head.sender) {
-        return Some(Refusal::Sender);
+        return Err(Refusal::Sender);
     }
     if !is_own_join_server(tables, head.receiver) {
-        return Some(Refusal::Receiver);
+        return Err(Refusal::Receiver);
     }
     if !is_network(head.sender) {
-        return Some(Refusal::Type);
+        return Err(Refusal::Type);
     }
     if wrong_size(request.phy_payload.as_slice()) {
-        return Some(Refusal::Size);
+        return Err(Refusal::Size);
     }
-    let Some(frame) = join_frame(request.phy_payload.as_slice()) else {
-        return Some(Refusal::Frame);
+    let Some(frame) = fitting_frame(request) else {
+        return Err(Refusal::Frame);
     };
-    if wrong_member(request, &frame) {
-        return Some(Refusal::Frame);
-    }
     let Some((device, row)) = tables.device(request.dev_eui) else {
-        return Some(Refusal::Device);
+        return Err(Refusal::Device);
     };
     if wrong_home(head, row) {
-        return Some(Refusal::Home);
+        return Err(Refusal::Home);
     }
     if wrong_join_eui(&frame, row) {
-        return Some(Refusal::Eui);
+        return Err(Refusal::Eui);
     }
     if wrong_mic(vault, request, device) {
-        return Some(Refusal::Mic);
+        return Err(Refusal::Mic);
     }
     let kept = state.device(device);
     if low_counter(&frame, kept) {
-        return Some(Refusal::Counter);
+        return Err(Refusal::Counter);
     }
-    if is_spent(kept) {
-        return Some(Refusal::Spent);
-    }
-    None
+    let Some(seed) = next_seed(&frame, row, kept) else {
+        return Err(Refusal::Spent);
+    };
+    Ok((device, row, seed))
 }
 
 // Whether the device doesn't belong to the application.
@@ -136,54 +174,67 @@ fn wrong_app(head: &Head, row: &DeviceRow) -> bool
     !is_app(row.app, head.sender)
 }
 
-// Whether one of the seeds has this JoinNonce.
-fn has_nonce(seeds: &[KeptSeed], nonce: Nonce24) -> bool
-    ensures { result ≡ list_any (has_nonce nonce) seeds.now }
+// The first of the seeds with this JoinNonce.
+fn seed_with(seeds: &[KeptSeed], nonce: Nonce24) -> Option<&KeptSeed>
+    ensures { option_copied result ≡ find (has_nonce nonce) seeds.now }
 {
     seeds
         .iter()
-        .any(|kept| kept.seed.nonce.get() == nonce.get())
+        .find(|kept| kept.seed.nonce.get() == nonce.get())
 }
 
-// Whether no kept seed of the device has this SessionKeyID.
-fn wrong_session(request: &AppSKeyRequest, kept: &KeptDevice) -> bool
-    ensures { result ≡ wrong_session request.now kept.now }
+// The kept seed of the device with this SessionKeyID.
+#[tactic(auto, using(crate::proofs::Sessions::session_found))]
+fn session_seed<'a>(request: &AppSKeyRequest, kept: &'a KeptDevice) -> Option<&'a KeptSeed>
+    ensures { MatchOption result (wrong_session request.now kept.now ≡ true)
+        (λ s. (wrong_session request.now kept.now ≡ false)
+        × (seed_with request.now.session_key_id.join_nonce kept.now ≡ Some s.now)) }
 {
-    let nonce = request.session_key_id.join_nonce;
-    let is_kept = has_nonce(kept.seeds.as_slice(), nonce);
-    request.session_key_id.dev_eui.0 != request.dev_eui.0 || !is_kept
+    if request.session_key_id.dev_eui.0 != request.dev_eui.0 {
+        return None;
+    }
+    seed_with(kept.seeds.as_slice(), request.session_key_id.join_nonce)
 }
 
-/// The first cause for which an AppSKeyReq is refused.
+/// The number and the row of the device of an AppSKeyReq, and the seed of its session, or the first
+/// cause for which it is refused.
 #[tactic(auto, unfolding(crate::specs::Rules::app_s_key_rules))]
-pub(crate) fn app_s_key_refusal(
-    tables: &Tables,
-    state: &State,
+pub(crate) fn app_s_key_target<'a>(
+    tables: &'a Tables,
+    state: &'a State,
     head: &Head,
     request: &AppSKeyRequest,
-) -> Option<Refusal>
+) -> Result<(u32, &'a DeviceRow, &'a KeptSeed), Refusal>
     requires rows { IsOf tables.now state.now }
-    ensures { result ≡ first_rule (app_s_key_rules tables.now state.now head.now request.now) }
+    ensures refused { IfErr result (λ r.
+        first_rule (app_s_key_rules tables.now state.now head.now request.now) ≡ Some r) }
+    ensures accepted { IfOk result (λ t.
+        first_rule (app_s_key_rules tables.now state.now head.now request.now) ≡ None) }
+    ensures row { IfOk result (λ t. (t.0 < length tables.now.devices)
+        × (slice_get tables.now.devices t.0 ≡ Some t.1.now)) }
+    ensures success { IfOk result (λ t. (keys : List RootKeys)
+        → app_s_key_success tables.now keys state.now head.now request.now
+        ≡ app_s_key_reply tables.now keys head.now request.now t.0 t.1.now t.2.now.seed) }
 {
     if !is_known(tables, head.sender) {
-        return Some(Refusal::Sender);
+        return Err(Refusal::Sender);
     }
     if !is_own_join_server(tables, head.receiver) {
-        return Some(Refusal::Receiver);
+        return Err(Refusal::Receiver);
     }
     if !is_application(tables, head.sender) {
-        return Some(Refusal::Type);
+        return Err(Refusal::Type);
     }
     let Some((device, row)) = tables.device(request.dev_eui) else {
-        return Some(Refusal::Device);
+        return Err(Refusal::Device);
     };
     if wrong_app(head, row) {
-        return Some(Refusal::Device);
+        return Err(Refusal::Device);
     }
-    if wrong_session(request, state.device(device)) {
-        return Some(Refusal::Session);
-    }
-    None
+    let Some(kept) = session_seed(request, state.device(device)) else {
+        return Err(Refusal::Session);
+    };
+    Ok((device, row, kept))
 }
 
 /// The first cause for which a message of a type that isn't served is refused.

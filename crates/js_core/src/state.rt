@@ -4,7 +4,8 @@ use std::alloc::Global;
 use std::marker::Model;
 use wire_ids::{Memory, Seed};
 
-/// What the join server keeps of the devices of its tables. Contracts see it as the machine's state.
+/// What the join server keeps of the devices of its tables. Contracts see it as the machine's
+/// state.
 #[derive(Drop)]
 pub struct State {
     devices: Vec<KeptDevice>,

@@ -3,11 +3,13 @@
 ghost use Rattle.std.specs.Prelude.{◌≡◌, ◌<◌, length, map, IfOk, OnErr};
 ghost use Rattle.agreements.specs.LookUps.{keys_of};
 ghost use Rattle.backend_json.specs.Messages.{message_of};
+ghost use Rattle.js_core.specs.Agreement.{Agrees, StepsAgree};
 ghost use Rattle.js_core.specs.Machine.{IsOf};
 ghost use Rattle.js_core.specs.Replies.{bad_answer};
 ghost use Rattle.js_core.specs.Step.{answer_to, decided, state_after, IsWithin};
 
 use crate::decide::{decide, refused};
+use crate::laws::answers_agree;
 use crate::{Decision, State};
 use agreements::Tables;
 use backend_json::{Answer, Bad, Refusal, answer_text, read_message};
@@ -47,8 +49,18 @@ fn decided<E: BlockFn, D: BlockFn>(
     }
 }
 
-/// Answers a line, which is one request, and keeps what it changes. After an error the state is as
-/// it was.
+/// Over these tables the keys of each answer, in every state and to every line, are exactly those
+/// to which its receiver is entitled, each wrapped under the KEK of its own label.
+pub fn steps_agree(tables: &Tables)
+    ensures { StepsAgree tables.now }
+{
+    tables.devices();
+    answers_agree();
+}
+
+/// Answers a line, which is one request, and keeps what it changes. The answer's keys are exactly
+/// those to which its receiver is entitled, each wrapped under the KEK of its own label. After an
+/// error the state is as it was.
 #[tactic(auto, unfolding(crate::specs::Step::answer_to, crate::specs::Step::state_after))]
 pub fn answer<E: BlockFn, D: BlockFn>(
     alloc: Global,
@@ -60,10 +72,14 @@ pub fn answer<E: BlockFn, D: BlockFn>(
     requires keys { vault.now ≡ map keys_of tables.now.devices }
     requires rows { IsOf tables.now state.old }
     ensures text { IfOk result (λ t. t ≡ answer_to tables.now vault.now state.old line.now) }
-    ensures state { IfOk result (λ _. state.new ≡ state_after tables.now vault.now state.old line.now) }
+    ensures agrees { Agrees tables.now vault.now state.old
+        (decided tables.now vault.now state.old line.now) }
+    ensures state { IfOk result (λ _. state.new
+        ≡ state_after tables.now vault.now state.old line.now) }
     ensures memory { OnErr result (state.new ≡ state.old) }
     ensures rows { IsOf tables.now state.new }
 {
+    steps_agree(tables);
     match decided(alloc, tables, vault, state, line)? {
         Decision::Reply(answer) => answer_text(alloc, &answer),
         Decision::Accept(answer, join) => {

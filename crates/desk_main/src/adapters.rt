@@ -1,5 +1,6 @@
-ghost use Rattle.std.specs.Prelude.{◌≤◌};
-ghost use Rattle.wire_ids.specs.Causes.{Rose};
+ghost use Rattle.std.specs.Prelude.{◌≡◌, ◌≤◌, None, IsErr};
+ghost use Rattle.std.specs.Io.{ReadsAtMost};
+ghost use Rattle.wire_ids.specs.Causes.{HasCause, Rose};
 
 use disk_model::{Failed, Sink, Source};
 use std::io::{Read, Write};
@@ -77,19 +78,24 @@ pub struct FileSource<F: Read> {
 
 impl<F: Read + Drop> FileSource<F> {
     /// The source of an opened file's bytes, or of a file that couldn't be opened.
-    pub fn new(file: Option<F>) -> Self {
+    pub fn new(file: Option<F>) -> Self
+        ensures file { result.file ≡ file }
+    {
         FileSource { file, faults: 0 }
     }
 }
 
 impl<F: Read> Source for FileSource<F> {
-    ghost use Rattle.std.specs.Prelude.{None};
-
     ghost left = { λ s. None };
 
     ghost faults = { λ s. s.faults };
 
-    fn read(&mut self, room: &mut [u8]) -> Result<usize, Failed> {
+    fn read(&mut self, room: &mut [u8]) -> Result<usize, Failed>
+        ensures bound { ReadsAtMost result room.new }
+        ensures cause { HasCause self.old.faults self.new.faults result }
+        ensures closed { self.old.file ≡ None → IsErr result }
+        ensures stays { self.old.file ≡ None → self.new.file ≡ None }
+    {
         if let Some(file) = &mut self.file {
             if let Ok(count) = file.read(room) {
                 return Ok(count);

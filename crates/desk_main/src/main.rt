@@ -14,6 +14,10 @@ use std::rt::Env;
 use std::sync::ledger::{Blank, Ledger};
 use std::{env, fs, io};
 
+// The status of want of memory.
+const WANT_OF_MEMORY: u8 = 10;
+
+// The words behind the program's name.
 fn words<R: Env + AllocGlobal>(rt: &R) -> io::Result<Vec<String>> {
     let mut words = Vec::new(rt.alloc());
     for word in env::args(rt)?.skip(1) {
@@ -52,7 +56,14 @@ fn work<G: Ledger>(rt: &HostRuntime, words: &[String], blank: Blank) -> u8
     status
 }
 
+// Words that can't be read count as none.
 fn main(rt: HostRuntime) -> ExitCode {
-    let words = words(&rt).unwrap_or(Vec::new(rt.alloc()));
+    let words = match words(&rt) {
+        Ok(words) => words,
+        Err(error) if error.kind() == io::ErrorKind::OutOfMemory => {
+            return ExitCode::from(WANT_OF_MEMORY);
+        }
+        Err(_) => Vec::new(rt.alloc()),
+    };
     ExitCode::from(work::<Brand>(&rt, &words, Blank::new(1)))
 }

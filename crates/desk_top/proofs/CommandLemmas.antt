@@ -4,6 +4,7 @@ use Rattle.std.specs.Prelude.{String}
 use Rattle.std.specs.declared.alloc.Global.{Global}
 use Rattle.std.specs.Io.KnownBytes.{Appends, Keeps}
 use Rattle.agreements.specs.Walk.{Config}
+use Rattle.js_core.specs.Agreement.{StepsAgree}
 use Rattle.desk_top.specs.Commands.{Answered, Counted, Did}
 use Rattle.desk_top.specs.Faults.{IsOfOpening}
 use Rattle.agreements.specs.declared.fault.TablesFault.{TablesFault}
@@ -24,14 +25,14 @@ did_check c text a b out w (Err Write) reads p = (c, reads, p)
 did_check c text a b out w (Err TooMuch) reads p = absurd p
 did_check c text a b out w (Err Memory) reads p = p
 
-pub did_answer : (c : Config) (text a b out w : Option (List ℕ)) (r : Result (Unit {0}) Fault) → ReadsTables text (Ok c) → Answered (2 ^ 30) c a b out w r → Did Answer text a b out w r
-did_answer c text a b out w (Ok u) reads p = ((c, reads, p.0), p.1)
-did_answer c text a b out w (Err Usage) reads p = absurd p
-did_answer c text a b out w (Err (Tables f)) reads p = absurd p
-did_answer c text a b out w (Err Read) reads p = inr (c, reads, p)
-did_answer c text a b out w (Err Write) reads p = (c, reads, p)
-did_answer c text a b out w (Err TooMuch) reads p = (c, reads, p)
-did_answer c text a b out w (Err Memory) reads p = inr (c, reads, p)
+pub did_answer : (c : Config) (text a b out w : Option (List ℕ)) (r : Result (Unit {0}) Fault) → ReadsTables text (Ok c) → StepsAgree c → Answered (2 ^ 30) c a b out w r → Did Answer text a b out w r
+did_answer c text a b out w (Ok u) reads agree p = ((c, reads, agree, p.0), p.1)
+did_answer c text a b out w (Err Usage) reads agree p = absurd p
+did_answer c text a b out w (Err (Tables f)) reads agree p = absurd p
+did_answer c text a b out w (Err Read) reads agree p = inr (c, reads, agree, p)
+did_answer c text a b out w (Err Write) reads agree p = (c, reads, agree, p)
+did_answer c text a b out w (Err TooMuch) reads agree p = (c, reads, agree, p)
+did_answer c text a b out w (Err Memory) reads agree p = inr (c, reads, agree, p)
 
 -- the tables couldn't be opened
 pub did_nothing : (command : Command) (text a out : Option (List ℕ)) (r : Result (Unit {0}) Fault) (e : Fault) → r ≡ Err e → IsOfOpening e → Keeps a a → Keeps out out → Did command text a a out out r
@@ -49,9 +50,9 @@ pub checked_for : (words : List (String Global)) (command : Command) (c : Config
 checked_for words Check c text a b out w r is spells reads p = did_check c text a b out w r reads p
 checked_for words Answer c text a b out w r is spells reads p = absurd (omega (arith, is.0, spells.0))
 
-pub answered_for : (words : List (String Global)) (command : Command) (c : Config) (text a b out w : Option (List ℕ)) (r : Result (Unit {0}) Fault) → Spells words Answer → Spells words command → ReadsTables text (Ok c) → Answered (2 ^ 30) c a b out w r → Did command text a b out w r
-answered_for words Check c text a b out w r is spells reads p = absurd (omega (arith, is.0, spells.0))
-answered_for words Answer c text a b out w r is spells reads p = did_answer c text a b out w r reads p
+pub answered_for : (words : List (String Global)) (command : Command) (c : Config) (text a b out w : Option (List ℕ)) (r : Result (Unit {0}) Fault) → Spells words Answer → Spells words command → ReadsTables text (Ok c) → StepsAgree c → Answered (2 ^ 30) c a b out w r → Did command text a b out w r
+answered_for words Check c text a b out w r is spells reads agree p = absurd (omega (arith, is.0, spells.0))
+answered_for words Answer c text a b out w r is spells reads agree p = did_answer c text a b out w r reads agree p
 
 refused_read : (text : Option (List ℕ)) (c : Config) (refusal : TablesFault) → ReadsTables text (Ok c) → HasTables text (Err refusal) → ⊥
 refused_read None c refusal reads has = has

@@ -14,7 +14,7 @@ use Rattle.desk_top.specs.Output.{output_of}
 use Rattle.js_core.specs.Step.{fresh}
 use Rattle.desk_top.specs.Commands.{Answered}
 use Rattle.desk_top.specs.Faults.{IsOfLines}
-use Rattle.desk_top.specs.Turns.{GoesOn, IsUnderWay, WritesAll, WritesFront, WritesWhole}
+use Rattle.desk_top.specs.Turns.{GoesOn, IsUnderWay, WritesAll, WritesFront, WritesTaken, WritesWhole}
 use Rattle.desk_top.specs.declared.fault.Fault.{Fault}
 use Rattle.desk_top.specs.declared.fault.Fault.TheVariants.{Usage, Tables, Read, Write, TooMuch, Memory}
 use Rattle.desk_top.proofs.TurnLemmas.{front_none, not_none}
@@ -34,12 +34,12 @@ read_known limit n c s now used part front bs a b left out w w' e p (inl f) stop
     let whole : a ≡ (used ++ front) ++ left = e ∙ ap (λ (r : List ℕ). used ++ r) stops ∙ sym (append_assoc used front left) in
     let few : length (used ++ front) ≤ limit = omega (arith, as_many (used ++ front) bs left (sym whole ∙ takes), count, within) in
     let written : output_of c s (whole_lines (take limit (used ++ front))) ≡ part = ap (λ (bs : List ℕ). output_of c s (whole_lines bs)) (take_all limit (used ++ front) few) ∙ whole_part c s now used part front clear f in
-    (used ++ front, whole, inl (subst (λ (bs : List ℕ). Appends out w' bs) (sym written) (Appends_kept out w w' part p k)))
+    inl (used ++ front, whole, subst (λ (bs : List ℕ). Appends out w' bs) (sym written) (Appends_kept out w w' part p k))
 read_known limit n c s now used part front bs a b left out w w' e p (inr d) stops clear k takes count within =
     let gone : front ≡ [] = front_none front left (sym d.0 ∙ stops) in
     let end : left ≡ [] = ap (λ (r : List ℕ). r ++ left) (sym gone) ∙ sym stops ∙ d.0 in
     let all : output_of c s (lines_of a) ≡ part = ap (λ (bs : List ℕ). output_of c s (lines_of bs)) (e ∙ ap (λ (r : List ℕ). used ++ r) d.0 ∙ append-nil used) ∙ d.1 in
-    (bs, takes, inr (end, subst (λ (bs : List ℕ). Appends out w' bs) (sym all) (Appends_kept out w w' part p k)))
+    inr (end, subst (λ (bs : List ℕ). Appends out w' bs) (sym all) (Appends_kept out w w' part p k))
 
 pub read_under_way : (limit n : ℕ) (c : Config) (s now : Machine) (a b left out w w' : Option (List ℕ)) → IsUnderWay c s a out b now w → StopsInLine b left → Keeps w w' → TakesCount a left 0 n → n ≤ limit → WritesWhole limit c s a left out w'
 read_under_way limit n c s now None b left out w w' u stops k takes within = tt
@@ -50,17 +50,17 @@ read_under_way limit n c s now (Some a) (Some b) (Some left) out w w' u stops k 
 
 -- where one byte too many was taken
 much_known : (limit n byte : ℕ) (c : Config) (s now : Machine) (used part front bs a b left : List ℕ) (out w w' : Option (List ℕ)) → a ≡ used ++ b → Appends out w part → (GoesOn c s used now part ⊎ ((b ≡ []) × (output_of c s (lines_of used) ≡ part)))
-    → b ≡ (front ++ byte ∷ []) ++ left → HasNoBreak front → Keeps w w' → a ≡ bs ++ left → n ≡ 0 + length bs → n ≡ limit + 1 → WritesWhole limit c s (Some a) (Some left) out w'
+    → b ≡ (front ++ byte ∷ []) ++ left → HasNoBreak front → Keeps w w' → a ≡ bs ++ left → n ≡ 0 + length bs → n ≡ limit + 1 → WritesTaken limit c s (Some a) (Some left) out w'
 much_known limit n byte c s now used part front bs a b left out w w' e p (inl f) stops clear k takes count over =
     let taken = (used ++ front) ++ byte ∷ [] in
     let whole : a ≡ taken ++ left = e ∙ ap (λ (r : List ℕ). used ++ r) stops ∙ sym (append_assoc used (front ++ byte ∷ []) left) ∙ ap (λ (r : List ℕ). r ++ left) (sym (append_assoc used front (byte ∷ []))) in
     let many : length (used ++ front) ≡ limit = omega (arith, as_many taken bs left (sym whole ∙ takes), count, over, length-append (used ++ front) (byte ∷ [])) in
     let first : take limit taken ≡ used ++ front = take-append-le limit (used ++ front) (byte ∷ []) (omega (arith, many)) ∙ take_all limit (used ++ front) (omega (arith, many)) in
     let written : output_of c s (whole_lines (take limit taken)) ≡ part = ap (λ (bs : List ℕ). output_of c s (whole_lines bs)) first ∙ whole_part c s now used part front clear f in
-    (taken, whole, inl (subst (λ (bs : List ℕ). Appends out w' bs) (sym written) (Appends_kept out w w' part p k)))
+    (taken, whole, subst (λ (bs : List ℕ). Appends out w' bs) (sym written) (Appends_kept out w w' part p k))
 much_known limit n byte c s now used part front bs a b left out w w' e p (inr d) stops clear k takes count over = not_none front left byte (sym d.0 ∙ stops)
 
-pub much_under_way : (limit n : ℕ) (c : Config) (s now : Machine) (a b left out w w' : Option (List ℕ)) → IsUnderWay c s a out b now w → StopsBehind b left → Keeps w w' → TakesCount a left 0 n → n ≡ limit + 1 → WritesWhole limit c s a left out w'
+pub much_under_way : (limit n : ℕ) (c : Config) (s now : Machine) (a b left out w w' : Option (List ℕ)) → IsUnderWay c s a out b now w → StopsBehind b left → Keeps w w' → TakesCount a left 0 n → n ≡ limit + 1 → WritesTaken limit c s a left out w'
 much_under_way limit n c s now None b left out w w' u stops k takes over = tt
 much_under_way limit n c s now (Some a) None left out w w' u stops k takes over = absurd u
 much_under_way limit n c s now (Some a) (Some b) None out w w' u stops k takes over = absurd stops.2
@@ -78,7 +78,7 @@ told_too_much r Memory k n is other much = (λ h. cc (is, h), λ l. absurd (omeg
 
 -- what a fault within the lines leaves
 pub answered_err : (limit : ℕ) (c : Config) (a b out w : Option (List ℕ)) (r : Result (Unit {0}) Fault) (e : Fault) → r ≡ Err e → IsOfLines e → WritesFront c (fresh c) a out w
-    → (e ≡ Read → WritesWhole limit c (fresh c) a b out w) → (e ≡ TooMuch → WritesWhole limit c (fresh c) a b out w) → Answered limit c a b out w r
+    → (e ≡ Read → WritesWhole limit c (fresh c) a b out w) → (e ≡ TooMuch → WritesTaken limit c (fresh c) a b out w) → Answered limit c a b out w r
 answered_err limit c a b out w r Usage is kind front read much = absurd kind
 answered_err limit c a b out w r (Tables f) is kind front read much = absurd kind
 answered_err limit c a b out w r Read is kind front read much = subst (λ (t : Result (Unit {0}) Fault). Answered limit c a b out w t) (sym is) (read refl)

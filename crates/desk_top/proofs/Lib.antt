@@ -1,5 +1,6 @@
 pub mod Alike
 pub mod CommandLemmas
+pub mod Completeness
 pub mod EndLemmas
 pub mod Results
 pub mod Texts

@@ -14,7 +14,7 @@ take_front n text rest e = take-append-le n text rest (omega (arith, e)) ∙ tak
 
 -- read to the end
 pub text_at_end : (most : ℕ) (a b : Option (List ℕ)) (text : List ℕ) → Consumes a b text → IsAtEnd b → length text ≤ most → ReadsText most a text
-text_at_end most None b text p e h = tt
+text_at_end most None b text p e h = h
 text_at_end most (Some a) None text p e h = absurd p
 text_at_end most (Some a) (Some b) text p e h =
     let whole : a ≡ text = p ∙ ap (λ (s : List ℕ). text ++ s) e ∙ append-nil text in
@@ -22,7 +22,7 @@ text_at_end most (Some a) (Some b) text p e h =
 
 -- read to as many bytes as are wanted
 pub text_full : (most : ℕ) (a b : Option (List ℕ)) (text : List ℕ) → Consumes a b text → length text ≡ most → ReadsText most a text
-text_full most None b text p h = tt
+text_full most None b text p h = omega (arith, h)
 text_full most (Some a) None text p h = absurd p
 text_full most (Some a) (Some b) text p h = sym (ap (take most) p ∙ take_front most text b h)
 
@@ -44,5 +44,5 @@ pub tables_of_front : (bytes : List ℕ) → tables_of (take 4194305 bytes) ≡ 
 tables_of_front bytes = elim (cases_lt 4194304 (length bytes)) [ inl l ↦ too_long (take 4194305 bytes) (still_long 4194304 bytes l) ∙ sym (too_long bytes l) | inr l ↦ ap tables_of (take_all 4194305 bytes (omega (arith, l))) ]
 
 pub tables_read : (a : Option (List ℕ)) (text : List ℕ) (said : Result Config TablesFault) → ReadsText text_room a text → tables_of text ≡ said → ReadsTables a said
-tables_read None text said p e = tt
+tables_read None text said p e = (text, p, e)
 tables_read (Some bytes) text said p e = sym (tables_of_front bytes) ∙ ap tables_of (sym p) ∙ e

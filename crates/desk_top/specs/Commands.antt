@@ -1,28 +1,33 @@
 -- What a command brings about.
-use Rattle.std.specs.Prelude.{◌⊎◌, ℕ, ◌^◌, List, [], ◌∷◌, ◌++◌, Option, Result, Ok, Err}
+use Rattle.std.specs.Prelude.{◌⊎◌, ℕ, ◌^◌, ◌≤◌, List, [], ◌∷◌, ◌++◌, length, Option, Some, None, Result, Ok, Err}
 use Rattle.std.specs.Io.KnownBytes.{Appends, IsAtEnd, Keeps}
 use Rattle.disk_model.specs.Written.{AppendsFront}
 use Rattle.agreements.specs.Walk.{Config}
+use Rattle.js_core.specs.Agreement.{StepsAgree}
 use Rattle.js_core.specs.Step.{fresh}
 use Rattle.desk_top.specs.LastLines.{counts_line}
 use Rattle.desk_top.specs.Text.{ReadsTables}
-use Rattle.desk_top.specs.Turns.{WritesAll, WritesFront, WritesWhole}
+use Rattle.desk_top.specs.Turns.{WritesAll, WritesFront, WritesTaken, WritesWhole}
 use Rattle.desk_top.specs.declared.words.Command.{Command}
 use Rattle.desk_top.specs.declared.words.Command.TheVariants.{Check, Answer}
 use Rattle.desk_top.specs.declared.fault.Fault.{Fault}
 use Rattle.desk_top.specs.declared.fault.Fault.TheVariants.{Usage, Tables, Read, Write, TooMuch, Memory}
 
--- the tables are valid, and all lines have their answer
+-- the tables are valid, over them each answer has the keys to which its receiver is entitled, and all lines have their answer
 abbrev pub AnswersAll : Option (List ℕ) → Option (List ℕ) → Option (List ℕ) → Option (List ℕ) → Type 0
-AnswersAll text before out written = (c : Config) × ReadsTables text (Ok c) × WritesAll c (fresh c) before out written
+AnswersAll text before out written = (c : Config) × ReadsTables text (Ok c) × StepsAgree c × WritesAll c (fresh c) before out written
 
--- the tables are valid, and a front of the answers was written
+-- the tables are valid, and a front of these answers was written
 abbrev pub AnswersFront : Option (List ℕ) → Option (List ℕ) → Option (List ℕ) → Option (List ℕ) → Type 0
-AnswersFront text before out written = (c : Config) × ReadsTables text (Ok c) × WritesFront c (fresh c) before out written
+AnswersFront text before out written = (c : Config) × ReadsTables text (Ok c) × StepsAgree c × WritesFront c (fresh c) before out written
 
--- the tables are valid, and each line has its answer whose end was taken and is among the first 2^30 bytes
+-- the tables are valid, and each line has such an answer whose end was taken and is among the first 2^30 bytes
+abbrev pub AnswersTaken : Option (List ℕ) → Option (List ℕ) → Option (List ℕ) → Option (List ℕ) → Option (List ℕ) → Type 0
+AnswersTaken text before after out written = (c : Config) × ReadsTables text (Ok c) × StepsAgree c × WritesTaken (2 ^ 30) c (fresh c) before after out written
+
+-- the same, or each line has such an answer and the input had ended
 abbrev pub AnswersWhole : Option (List ℕ) → Option (List ℕ) → Option (List ℕ) → Option (List ℕ) → Option (List ℕ) → Type 0
-AnswersWhole text before after out written = (c : Config) × ReadsTables text (Ok c) × WritesWhole (2 ^ 30) c (fresh c) before after out written
+AnswersWhole text before after out written = (c : Config) × ReadsTables text (Ok c) × StepsAgree c × WritesWhole (2 ^ 30) c (fresh c) before after out written
 
 -- the tables are valid, and their counts were written
 abbrev pub ChecksAll : Option (List ℕ) → Option (List ℕ) → Option (List ℕ) → Type 0
@@ -46,7 +51,7 @@ Counted c out written (Err TooMuch) = ⊥
 abbrev pub Answered : ℕ → Config → Option (List ℕ) → Option (List ℕ) → Option (List ℕ) → Option (List ℕ) → Result (Unit {0}) Fault → Type 0
 Answered limit c before after out written (Ok u) = WritesAll c (fresh c) before out written × IsAtEnd after
 Answered limit c before after out written (Err Read) = WritesWhole limit c (fresh c) before after out written
-Answered limit c before after out written (Err TooMuch) = WritesWhole limit c (fresh c) before after out written
+Answered limit c before after out written (Err TooMuch) = WritesTaken limit c (fresh c) before after out written
 Answered limit c before after out written (Err Write) = WritesFront c (fresh c) before out written
 Answered limit c before after out written (Err Memory) = WritesFront c (fresh c) before out written
 Answered limit c before after out written (Err Usage) = ⊥
@@ -63,8 +68,14 @@ Did Check text before after out written (Err Read) = Keeps out written
 Did Check text before after out written (Err TooMuch) = ⊥
 Did Answer text before after out written (Ok u) = AnswersAll text before out written × IsAtEnd after
 Did Answer text before after out written (Err Read) = (Keeps before after × Keeps out written) ⊎ AnswersWhole text before after out written
-Did Answer text before after out written (Err TooMuch) = AnswersWhole text before after out written
+Did Answer text before after out written (Err TooMuch) = AnswersTaken text before after out written
 Did Answer text before after out written (Err Write) = AnswersFront text before out written
 Did Answer text before after out written (Err Memory) = Keeps out written ⊎ AnswersFront text before out written
 Did Answer text before after out written (Err Usage) = ⊥
 Did Answer text before after out written (Err (Tables refusal)) = Keeps out written
+
+-- the input that the command reads is known, and isn't too much
+abbrev pub FitsInput : Command → Option (List ℕ) → Type 0
+FitsInput Check input = Unit {0}
+FitsInput Answer None = ⊥
+FitsInput Answer (Some bytes) = length bytes ≤ 2 ^ 30

@@ -17,14 +17,18 @@ abbrev pub WritesFront : Config → Machine → Option (List ℕ) → Option (Li
 WritesFront c s None out written = Unit {0}
 WritesFront c s (Some bytes) out written = AppendsFront out written (output_of c s (lines_of bytes))
 
--- the answers to all lines were written whose end was taken and is among the first bytes, or to all
--- lines where the input had ended
+-- the answers to all lines were written whose end was taken and is among the first bytes
+abbrev pub WritesTaken : ℕ → Config → Machine → Option (List ℕ) → Option (List ℕ) → Option (List ℕ) → Option (List ℕ) → Type 0
+WritesTaken limit c s None after out written = Unit {0}
+WritesTaken limit c s (Some bytes) None out written = ⊥
+WritesTaken limit c s (Some bytes) (Some rest) out written = (taken : List ℕ) × (bytes ≡ taken ++ rest) × Appends out written (output_of c s (whole_lines (take limit taken)))
+
+-- these, or those to all lines where the input had ended
 abbrev pub WritesWhole : ℕ → Config → Machine → Option (List ℕ) → Option (List ℕ) → Option (List ℕ) → Option (List ℕ) → Type 0
 WritesWhole limit c s None after out written = Unit {0}
 WritesWhole limit c s (Some bytes) None out written = ⊥
-WritesWhole limit c s (Some bytes) (Some rest) out written = (taken : List ℕ) × (bytes ≡ taken ++ rest)
-    × (Appends out written (output_of c s (whole_lines (take limit taken)))
-    ⊎ ((rest ≡ []) × Appends out written (output_of c s (lines_of bytes))))
+WritesWhole limit c s (Some bytes) (Some rest) out written = WritesTaken limit c s (Some bytes) (Some rest) out written
+    ⊎ ((rest ≡ []) × Appends out written (output_of c s (lines_of bytes)))
 
 -- a line was used up, with its end, or at the end of the input
 abbrev pub LineUsed : Option (List ℕ) → List ℕ → Option (List ℕ) → Type 0

@@ -1,4 +1,5 @@
-ghost use Rattle.std.specs.Prelude.{◌≡◌, ◌≢◌, ◌↔◌, ◌+◌, ◌^◌, ◌<◌, ◌≤◌, [], List, ℕ, length, map, Err, IfOk, IfErr, OnOk, OnErr, IsErrOf};
+ghost use Rattle.std.specs.Prelude.{◌≡◌, ◌≢◌, ◌↔◌, ◌+◌, ◌^◌, ◌<◌, ◌≤◌, [], List, ℕ, length, map};
+ghost use Rattle.std.specs.Prelude.{Err, IfOk, IfErr, OnOk, OnErr, IsErrOf};
 ghost use Rattle.std.specs.Bool.{OnFalse};
 ghost use Rattle.std.specs.Io.KnownBytes.{Consumes, IsAtEnd, Keeps};
 ghost use Rattle.wire_ids.specs.Causes.{Rose};
@@ -36,22 +37,29 @@ fn turn<E: BlockFn, D: BlockFn, T: Source, O: Sink>(
 
     ensures of { IsOf tables.now state.new }
     ensures limit { ahead.new.limit ≡ ahead.old.limit }
-    ensures turns { IfOk result (λ goes. Turns tables.now (coming ahead.old (T.left input.old)) state.old (O.written out.old) goes
+    ensures turns { IfOk result
+        (λ goes. Turns tables.now (coming ahead.old (T.left input.old)) state.old
+        (O.written out.old) goes
         (coming ahead.new (T.left input.new)) state.new (O.written out.new)) }
     ensures end { IfOk result (λ goes. OnFalse goes (IsAtEnd (T.left input.new))) }
-    ensures front { OnErr result (WritesFront tables.now state.old (coming ahead.old (T.left input.old)) (O.written out.old) (O.written out.new)) }
+    ensures front { OnErr result
+        (WritesFront tables.now state.old (coming ahead.old (T.left input.old))
+        (O.written out.old) (O.written out.new)) }
     ensures kind { IfErr result IsOfLines }
     ensures spends { IfOk result (λ goes. Spends goes (budget ahead.old) (budget ahead.new)) }
-    ensures taken { TakesCount (T.left input.old) (T.left input.new) ahead.old.taken ahead.new.taken }
+    ensures taken { TakesCount (T.left input.old) (T.left input.new)
+        ahead.old.taken ahead.new.taken }
     ensures within { OnOk result (ahead.new.taken ≤ ahead.new.limit) }
     ensures over { IfErr result (λ e. e ≢ fault.TooMuch → ahead.new.taken ≤ ahead.new.limit) }
 
     ensures read { IsErrOf result Fault.Read → Rose (T.faults input.old) (T.faults input.new) }
-    ensures read_in_line { IsErrOf result Fault.Read → StopsInLine (coming ahead.old (T.left input.old)) (T.left input.new)
+    ensures read_in_line { IsErrOf result Fault.Read
+        → StopsInLine (coming ahead.old (T.left input.old)) (T.left input.new)
         × Keeps (O.written out.old) (O.written out.new) }
     ensures write { IsErrOf result Fault.Write → Rose (O.faults out.old) (O.faults out.new) }
     ensures too_much { IsErrOf result Fault.TooMuch → ahead.new.taken ≡ ahead.new.limit + 1 }
-    ensures stops_behind { IsErrOf result Fault.TooMuch → StopsBehind (coming ahead.old (T.left input.old)) (T.left input.new)
+    ensures stops_behind { IsErrOf result Fault.TooMuch
+        → StopsBehind (coming ahead.old (T.left input.old)) (T.left input.new)
         × Keeps (O.written out.old) (O.written out.new) }
     ensures input_count { T.faults input.old ≤ T.faults input.new }
     ensures out_count { O.faults out.old ≤ O.faults out.new }
@@ -66,7 +74,8 @@ fn turn<E: BlockFn, D: BlockFn, T: Source, O: Sink>(
     }
 }
 
-// Answers the lines of the input to its end. Their ends are looked for among its first `limit` bytes.
+// Answers the lines of the input to its end. Their ends are looked for among its first `limit`
+// bytes.
 pub(crate) fn answer_lines<E: BlockFn, D: BlockFn, T: Source, O: Sink>(
     alloc: Global,
     limit: u64,
@@ -79,7 +88,8 @@ pub(crate) fn answer_lines<E: BlockFn, D: BlockFn, T: Source, O: Sink>(
     requires keys { vault.now ≡ map keys_of tables.now.devices }
 
     // What was written, by how it ended.
-    ensures answered { Answered limit tables.now (T.left input.old) (T.left input.new) (O.written out.old) (O.written out.new) result }
+    ensures answered { Answered limit tables.now (T.left input.old) (T.left input.new)
+        (O.written out.old) (O.written out.new) result }
 
     ensures read { IsErrOf result Fault.Read → Rose (T.faults input.old) (T.faults input.new) }
     ensures write { IsErrOf result Fault.Write → Rose (O.faults out.old) (O.faults out.new) }

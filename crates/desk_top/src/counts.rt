@@ -19,7 +19,8 @@ fn counts_text(alloc: Global, tables: &Tables) -> Result<String, AllocError>
     let gateways = tables.gateways().len();
     let agreements = tables.agreements().len();
     format!(in alloc;
-        "tables ok: devices {devices} networks {networks} applications {applications} gateways {gateways} agreements {agreements}"
+        "tables ok: devices {devices} networks {networks} applications {applications} \
+        gateways {gateways} agreements {agreements}"
     )
 }
 

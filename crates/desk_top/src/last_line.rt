@@ -2,7 +2,7 @@ ghost use Rattle.std.specs.Prelude.{◌≡◌, ◌≤◌, [], ◌∷◌, ◌++�
 ghost use Rattle.std.specs.Io.KnownBytes.{Appends};
 ghost use Rattle.wire_ids.specs.Causes.{HasCause};
 ghost use Rattle.disk_model.specs.Written.{AppendsFront};
-ghost use Rattle.desk_top.specs.LastLines.{Prints, number_of, place_of, refused_line};
+ghost use Rattle.desk_top.specs.LastLines.{Prints, path_or_dash, refused_line};
 
 use agreements::TablesFault;
 use disk_model::{Failed, Sink, write_whole};
@@ -10,8 +10,10 @@ use std::alloc::{AllocError, Global};
 
 // Writes a text and the byte that ends a line.
 pub(crate) fn write_line<O: Sink>(out: &mut O, text: &[u8]) -> Result<(), Failed>
-    ensures ok { OnOk result (Appends (O.written out.old) (O.written out.new) (text.now ++ 10 ∷ [])) }
-    ensures err { OnErr result (AppendsFront (O.written out.old) (O.written out.new) (text.now ++ 10 ∷ [])) }
+    ensures ok { OnOk result (Appends (O.written out.old) (O.written out.new) (text.now
+        ++ 10 ∷ [])) }
+    ensures err { OnErr result (AppendsFront (O.written out.old) (O.written out.new) (text.now
+        ++ 10 ∷ [])) }
     ensures cause { HasCause (O.faults out.old) (O.faults out.new) result }
 {
     write_whole(out, text)?;
@@ -20,7 +22,8 @@ pub(crate) fn write_line<O: Sink>(out: &mut O, text: &[u8]) -> Result<(), Failed
 
 // Prints a last line. Where the sink fails, a front of it stands there.
 pub(crate) fn print<O: Sink>(out: &mut O, text: &[u8])
-    ensures prints { Prints (O.faults out.old) (O.faults out.new) (O.written out.old) (O.written out.new) text.now }
+    ensures prints { Prints (O.faults out.old) (O.faults out.new) (O.written out.old)
+        (O.written out.new) text.now }
     ensures later { O.faults out.old ≤ O.faults out.new }
 {
     match write_line(out, text) {
@@ -29,30 +32,13 @@ pub(crate) fn print<O: Sink>(out: &mut O, text: &[u8])
     }
 }
 
-fn number(fault: &TablesFault) -> u32
-    ensures { result ≡ number_of fault.now }
+// The path, and `-` where there is none.
+fn path_or_dash(path: &[u8]) -> &[u8]
+    ensures { result.now ≡ path_or_dash path.now }
 {
-    match fault {
-        TablesFault::NotToml => 1,
-        TablesFault::Missing { .. } => 2,
-        TablesFault::BadValue { .. } => 3,
-        TablesFault::Twice { .. } => 4,
-        TablesFault::NoSuch { .. } => 5,
-        TablesFault::TooMany { .. } => 6,
-        TablesFault::Memory => 0,
-    }
-}
-
-fn place(fault: &TablesFault) -> &[u8]
-    ensures { result.now ≡ place_of fault.now }
-{
-    match fault {
-        TablesFault::NotToml | TablesFault::Memory => b"-",
-        TablesFault::Missing { path }
-        | TablesFault::BadValue { path }
-        | TablesFault::Twice { path }
-        | TablesFault::NoSuch { path }
-        | TablesFault::TooMany { path, .. } => path.as_slice(),
+    match path {
+        [] => b"-",
+        path => path,
     }
 }
 
@@ -60,8 +46,8 @@ fn place(fault: &TablesFault) -> &[u8]
 pub(crate) fn refused_text(alloc: Global, fault: &TablesFault) -> Result<Vec<u8>, AllocError>
     ensures { IfOk result (λ line. line.items ≡ refused_line fault.now) }
 {
-    let number = number(fault);
+    let number = fault.number().unwrap_or(0);
     let mut line = format!(in alloc; "lwdesk: tables {number} ")?.into_bytes();
-    line.extend_from_slice(place(fault))?;
+    line.extend_from_slice(path_or_dash(fault.path()))?;
     Ok(line)
 }

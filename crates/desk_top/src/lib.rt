@@ -1,4 +1,5 @@
-//! The program without its outside: the words, the tables text, and the answers to the input's lines.
+//! The program without its outside: the words, the tables text, and the answers to the input's
+//! lines.
 #![tactic(auto)]
 
 mod answering;

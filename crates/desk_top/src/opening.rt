@@ -1,8 +1,10 @@
-ghost use Rattle.std.specs.Prelude.{◌≡◌, ◌≢◌, ◌<◌, ◌≤◌, ◌++◌, List, ℕ, length, Ok, Err, IfOk, IfErr, IsErrOf};
+ghost use Rattle.std.specs.Prelude.{◌≡◌, ◌≢◌, ◌<◌, ◌≤◌, ◌++◌, List, ℕ, length, Ok, Err, IfOk};
+ghost use Rattle.std.specs.Prelude.{IfErr, IsErrOf};
 ghost use Rattle.std.specs.Io.KnownBytes.{Consumes, IsAtEnd};
 ghost use Rattle.wire_ids.specs.Causes.{Rose};
 ghost use Rattle.agreements.specs.declared.fault.TablesFault.{TablesFault as Refusal};
 ghost use Rattle.agreements.specs.declared.fault.TablesFault.TheVariants as refusals;
+ghost use Rattle.js_core.specs.Agreement.{StepsAgree};
 ghost use Rattle.desk_top.specs.Faults.{IsOfOpening, IsOfReading};
 ghost use Rattle.desk_top.specs.Text.{ReadsText, ReadsTables, text_room};
 ghost use Rattle.desk_top.specs.declared.fault.Fault.TheVariants as fault;
@@ -10,6 +12,7 @@ ghost use Rattle.desk_top.specs.declared.fault.Fault.TheVariants as fault;
 use crate::fault::Fault;
 use agreements::{Tables, TablesFault, read_tables};
 use disk_model::Source;
+use js_core::steps_agree;
 use std::alloc::Global;
 
 /// One byte more than a tables text may have: the byte that shows it to be too long.
@@ -22,7 +25,8 @@ fn room() -> [u8; PIECE] {
     [0; PIECE]
 }
 
-// Reads a piece of at most `most` bytes behind the text, and says how long it is: 0 at the end alone.
+// Reads a piece of at most `most` bytes behind the text, and says how long it is: 0 at the end
+// alone.
 fn read_piece<S: Source>(
     source: &mut S,
     room: &mut [u8; PIECE],
@@ -30,7 +34,8 @@ fn read_piece<S: Source>(
     text: &mut Vec<u8>,
 ) -> Result<usize, Fault>
     requires some { 0 < most }
-    ensures piece { (piece : List ℕ) × Consumes (S.left source.old) (S.left source.new) piece × (length piece ≤ most)
+    ensures piece { (piece : List ℕ) × Consumes (S.left source.old) (S.left source.new) piece
+        × (length piece ≤ most)
         × IfOk result (λ n. (text.new.items ≡ text.old.items ++ piece) × (n ≡ length piece)) }
     ensures end { IfOk result (λ n. n ≡ 0 → IsAtEnd (S.left source.new)) }
     ensures kind { IfErr result IsOfReading }
@@ -49,7 +54,8 @@ fn read_piece<S: Source>(
 fn read_text<S: Source>(alloc: Global, most: usize, source: &mut S) -> Result<Vec<u8>, Fault>
     ensures text { IfOk result (λ text. ReadsText most (S.left source.old) text.items) }
     ensures kind { IfErr result IsOfReading }
-    ensures taken { (bytes : List ℕ) × Consumes (S.left source.old) (S.left source.new) bytes × (length bytes ≤ most) }
+    ensures taken { (bytes : List ℕ) × Consumes (S.left source.old) (S.left source.new) bytes
+        × (length bytes ≤ most) }
     ensures read { IsErrOf result Fault.Read → Rose (S.faults source.old) (S.faults source.new) }
     ensures later { S.faults source.old ≤ S.faults source.new }
 {
@@ -69,7 +75,8 @@ fn read_text<S: Source>(alloc: Global, most: usize, source: &mut S) -> Result<Ve
 fn refused(refusal: TablesFault) -> Fault
     ensures kind { IsOfOpening result }
     ensures unread { result ≢ fault.Read }
-    ensures told { (told : Refusal) → result ≡ fault.Tables told → (told ≡ refusal) × (refusal ≢ refusals.Memory) }
+    ensures told { (told : Refusal) → result ≡ fault.Tables told → (told ≡ refusal)
+        × (refusal ≢ refusals.Memory) }
 {
     match refusal {
         TablesFault::Memory => Fault::Memory,
@@ -80,15 +87,21 @@ fn refused(refusal: TablesFault) -> Fault
 // The tables of a source's text.
 pub(crate) fn open_tables<S: Source>(alloc: Global, source: &mut S) -> Result<Tables, Fault>
     ensures tables { IfOk result (λ tables. ReadsTables (S.left source.old) (Ok tables)) }
+    ensures agree { IfOk result StepsAgree }
     ensures kind { IfErr result IsOfOpening }
-    ensures refused { (refusal : Refusal) → IsErrOf result (fault.Tables refusal) → ReadsTables (S.left source.old) (Err refusal) }
-    ensures taken { (bytes : List ℕ) × Consumes (S.left source.old) (S.left source.new) bytes × (length bytes ≤ text_room) }
+    ensures refused { (refusal : Refusal) → IsErrOf result (fault.Tables refusal)
+        → ReadsTables (S.left source.old) (Err refusal) × (refusal ≢ refusals.Memory) }
+    ensures taken { (bytes : List ℕ) × Consumes (S.left source.old) (S.left source.new) bytes
+        × (length bytes ≤ text_room) }
     ensures read { IsErrOf result Fault.Read → Rose (S.faults source.old) (S.faults source.new) }
     ensures later { S.faults source.old ≤ S.faults source.new }
 {
     let text = read_text(alloc, TEXT_ROOM, source)?;
     match read_tables(alloc, &text) {
-        Ok(tables) => Ok(tables),
+        Ok(tables) => {
+            steps_agree(&tables);
+            Ok(tables)
+        }
         Err(refusal) => Err(refused(refusal)),
     }
 }

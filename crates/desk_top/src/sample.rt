@@ -68,8 +68,8 @@ gateway_id = "b000000000000001"
 [[gateway]]
 gateway_id = "b000000000000002"
 
-# Devices. Numbers 1 to 32 are at home in the desk's own network, and 33 to 40 in network 000014: the
-# desk is their join server. These may be added to each:
+# Devices. Numbers 1 to 32 are at home in the desk's own network, and 33 to 40 in network 000014:
+# the desk is their join server. These may be added to each:
 #   roaming = true                  # whether it may roam
 #   carry_app = false               # whether its AppSKey goes along with the session keys
 #   profile_time = ""               # when its device profile was set

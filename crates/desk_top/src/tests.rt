@@ -1,4 +1,4 @@
-ghost use Rattle.std.specs.Prelude.{◌≡◌, ◌<◌};
+ghost use Rattle.std.specs.Prelude.{◌≡◌, ◌≤◌, ◌<◌};
 
 use crate::fault::Fault;
 use crate::vaulted::answer_vaulted;
@@ -17,8 +17,8 @@ pub(crate) const ANSWER: &str = "answer --tables T --journal J";
 
 const CHECK: &str = "check --tables T";
 
-const MALFORMED: &str =
-    "{\"MessageType\":\"ErrorNotif\",\"Result\":{\"Description\":\"message\",\"ResultCode\":\"MalformedRequest\"}}\n";
+const MALFORMED: &str = "{\"MessageType\":\"ErrorNotif\",\"Result\":{\"Description\":\"message\",\
+    \"ResultCode\":\"MalformedRequest\"}}\n";
 
 pub(crate) fn words_of(alloc: Global, text: &str) -> Result<Vec<String>, AllocError> {
     let mut words = Vec::new(alloc);
@@ -65,10 +65,10 @@ pub(crate) fn status_of(
     run_counted::<Brand>(alloc, words, tables, input, out, Blank::new(1))
 }
 
-// The word lists of the program, and others. Where the sink has no room for the whole line, the status
-// stays.
+// The word lists of the program, and others. Where the sink has no room for the whole line, the
+// status stays.
 #[test]
-fn words(rt: HostRuntime) -> Result<(), Fail> {
+fn words_that_are_no_command_end_with_status_2(rt: HostRuntime) -> Result<(), Fail> {
     let alloc = rt.alloc();
     for (text, tables, journal) in [(CHECK, Some(2), None), (ANSWER, Some(2), Some(4))] {
         let files = files_of(&words_of(alloc, text)?).ok_or("words")?;
@@ -101,8 +101,8 @@ fn words(rt: HostRuntime) -> Result<(), Fail> {
     Ok(())
 }
 
-// What a command prints over a tables text, and its status. Each read gives 1,000 bytes at most, and the
-// second fails where it is said.
+// What a command prints over a tables text, and its status. Each read gives 1,000 bytes at most,
+// and the second fails where it is said.
 fn expect(
     rt: &impl Abort,
     alloc: Global,
@@ -126,7 +126,20 @@ fn expect(
 }
 
 #[test]
-fn tables(rt: HostRuntime) -> Result<(), Fail> {
+fn a_tables_text_has_room_for_4194304_bytes(rt: HostRuntime) -> Result<(), Fail> {
+    let alloc = rt.alloc();
+    for (length, printed) in [
+        (4_194_304, "lwdesk: tables 2 desk\n"),
+        (4_194_305, "lwdesk: tables 6 text\n"),
+    ] {
+        let text = " ".repeat(alloc, length)?;
+        expect(&rt, alloc, CHECK, &text, 0, b"", 3, printed)?;
+    }
+    Ok(())
+}
+
+#[test]
+fn tables_are_counted_refused_or_not_read(rt: HostRuntime) -> Result<(), Fail> {
     let alloc = rt.alloc();
     let third = "nwk_key = \"03030303030303030303030303030303\"";
     let (front, back) = SAMPLE_TABLES.split_once(third).ok_or("third")?;
@@ -155,10 +168,10 @@ fn tables(rt: HostRuntime) -> Result<(), Fail> {
     Ok(())
 }
 
-// Each line has its answer, also a long one, an empty one, one of blanks and one without its end. The
-// bytes come in pieces of seven.
+// Each line has its answer, also a long one, an empty one, one of blanks and one without its end.
+// The bytes come in pieces of seven.
 #[test]
-fn lines(rt: HostRuntime) -> Result<(), Fail> {
+fn each_line_has_its_answer(rt: HostRuntime) -> Result<(), Fail> {
     let alloc = rt.alloc();
     let words = words_of(alloc, ANSWER)?;
     for (front, count, back, answers) in [
@@ -207,7 +220,7 @@ impl Source for Zeros {
 }
 
 #[test]
-fn zeros_without_end(rt: HostRuntime) -> Result<(), Fail> {
+fn zeros_without_end_are_too_much(rt: HostRuntime) -> Result<(), Fail> {
     let alloc = rt.alloc();
     let tables = read_tables(alloc, SAMPLE_TABLES.as_bytes()).or(Err("tables"))?;
     let mut out = MemorySink::new(alloc, 400).or(Err("memory"))?;
@@ -217,18 +230,21 @@ fn zeros_without_end(rt: HostRuntime) -> Result<(), Fail> {
     Ok(())
 }
 
-// Three lines, which come in pieces of three bytes; the read after so many fails once.
+// Three lines, which come in pieces of at most so many bytes; the read after so many fails once.
 fn expect_fault(
     rt: &impl Abort,
     alloc: Global,
+    most: usize,
     room: usize,
     passes: u64,
     status: u8,
     written: &[u8],
-) -> Result<(), Fail> {
+) -> Result<(), Fail>
+    requires { 1 ≤ most }
+{
     let words = words_of(alloc, ANSWER)?;
     let mut tables = MemorySource::new(SAMPLE_TABLES.as_bytes().to_vec(alloc)?);
-    let mut input = MemorySource::with(b"{}\n{}\n{\n".to_vec(alloc)?, 3, passes, 1);
+    let mut input = MemorySource::with(b"{}\n{}\n{\n".to_vec(alloc)?, most, passes, 1);
     let mut out = MemorySink::new(alloc, room).or(Err("memory"))?;
     assert_eq!(rt;
         status_of(alloc, &words, &mut tables, &mut input, &mut out),
@@ -238,19 +254,21 @@ fn expect_fault(
     Ok(())
 }
 
-// What stands written where a read fails or a write does.
+// What stands written where a read fails, also in mid-line, or a write does.
 #[test]
-fn faults(rt: HostRuntime) -> Result<(), Fail> {
+fn a_fault_leaves_the_answers_before_it(rt: HostRuntime) -> Result<(), Fail> {
     let alloc = rt.alloc();
     let two = format!(in alloc; "{MALFORMED}{MALFORMED}lwdesk: read\n")?;
     let (front, _) = two.as_bytes().split_at(two.len().min(100));
-    expect_fault(&rt, alloc, 400, 2, 4, two.as_bytes())?;
-    expect_fault(&rt, alloc, 100, 100, 5, front)?;
-    expect_fault(&rt, alloc, 0, 100, 5, b"")
+    let one = format!(in alloc; "{MALFORMED}lwdesk: read\n")?;
+    expect_fault(&rt, alloc, 3, 400, 2, 4, two.as_bytes())?;
+    expect_fault(&rt, alloc, 4, 400, 1, 4, one.as_bytes())?;
+    expect_fault(&rt, alloc, 3, 100, 100, 5, front)?;
+    expect_fault(&rt, alloc, 3, 0, 100, 5, b"")
 }
 
-// Three lines of eight bytes, where so many bytes may be taken: whether there was too much, and how many
-// were answered.
+// Three lines of eight bytes, where so many bytes may be taken: whether there was too much, and how
+// many were answered.
 fn expect_limit(
     rt: &impl Abort,
     alloc: Global,
@@ -270,7 +288,7 @@ fn expect_limit(
 }
 
 #[test]
-fn too_much_input(rt: HostRuntime) -> Result<(), Fail> {
+fn lines_within_the_limit_are_answered(rt: HostRuntime) -> Result<(), Fail> {
     let alloc = rt.alloc();
     expect_limit(&rt, alloc, 8, false, 3)?;
     expect_limit(&rt, alloc, 7, true, 2)?;

@@ -1,4 +1,5 @@
-ghost use Rattle.std.specs.Prelude.{◌≡◌, ◌↔◌, ◌+◌, ◌^◌, ◌<◌, ◌≤◌, List, ℕ, length, map, vec_len, Err, IsErrOf};
+ghost use Rattle.std.specs.Prelude.{◌≡◌, ◌↔◌, ◌+◌, ◌^◌, ◌<◌, ◌≤◌, List, ℕ, length, map, vec_len};
+ghost use Rattle.std.specs.Prelude.{Err, IsErrOf};
 ghost use Rattle.std.specs.Io.KnownBytes.{Consumes};
 ghost use Rattle.wire_ids.specs.Causes.{Rose};
 ghost use Rattle.aes_cmac.specs.Aes.{encrypted, decrypted};
@@ -15,25 +16,26 @@ use key_vault::{BlockFn, KeyRing, RootKind, Vault};
 use std::alloc::Global;
 use wire_ids::RootKeys;
 
-// Answers the lines of the input with a vault over these two closures.
+// Answers the lines of the input with a vault over these two closures, which has no raw key.
 fn with_closures<E: BlockFn, D: BlockFn, T: Source, O: Sink>(
     alloc: Global,
     limit: u64,
     tables: &Tables,
-    keys: &Vec<RootKeys>,
+    keys: Vec<RootKeys>,
     encrypt: E,
     decrypt: D,
     input: &mut T,
     out: &mut O,
 ) -> Result<(), Fault>
     requires limit { limit < 2 ^ 63 }
-    requires rows { keys.now.items ≡ map keys_of tables.now.devices }
-    requires few { vec_len keys.now ≤ 4096 }
-    requires may_encrypt { Serves (E.may encrypt) (vec_len keys.now) }
-    requires encrypts { Encrypts (E.gives encrypt) keys.now.items }
-    requires may_decrypt { Serves (D.may decrypt) (vec_len keys.now) }
-    requires decrypts { Decrypts (D.gives decrypt) keys.now.items }
-    ensures answered { Answered limit tables.now (T.left input.old) (T.left input.new) (O.written out.old) (O.written out.new) result }
+    requires rows { keys.items ≡ map keys_of tables.now.devices }
+    requires few { vec_len keys ≤ 4096 }
+    requires may_encrypt { Serves (E.may encrypt) (vec_len keys) }
+    requires encrypts { Encrypts (E.gives encrypt) keys.items }
+    requires may_decrypt { Serves (D.may decrypt) (vec_len keys) }
+    requires decrypts { Decrypts (D.gives decrypt) keys.items }
+    ensures answered { Answered limit tables.now (T.left input.old) (T.left input.new)
+        (O.written out.old) (O.written out.new) result }
     ensures read { IsErrOf result Fault.Read → Rose (T.faults input.old) (T.faults input.new) }
     ensures write { IsErrOf result Fault.Write → Rose (O.faults out.old) (O.faults out.new) }
     ensures too_much { (bytes : List ℕ) × Consumes (T.left input.old) (T.left input.new) bytes
@@ -41,11 +43,12 @@ fn with_closures<E: BlockFn, D: BlockFn, T: Source, O: Sink>(
     ensures input_count { T.faults input.old ≤ T.faults input.new }
     ensures out_count { O.faults out.old ≤ O.faults out.new }
 {
-    let vault = Vault::new(keys, encrypt, decrypt);
+    let vault = Vault::new(&keys, encrypt, decrypt);
+    drop(keys);
     answer_lines(alloc, limit, tables, &vault, input, out)
 }
 
-// Answers the lines of the input. The closures own key rings, and keep no row of the tables.
+// Answers the lines of the input. The closures share a key ring, and keep no row of the tables.
 pub(crate) fn answer_vaulted<T: Source, O: Sink>(
     alloc: Global,
     limit: u64,
@@ -54,7 +57,8 @@ pub(crate) fn answer_vaulted<T: Source, O: Sink>(
     out: &mut O,
 ) -> Result<(), Fault>
     requires limit { limit < 2 ^ 63 }
-    ensures answered { Answered limit tables.now (T.left input.old) (T.left input.new) (O.written out.old) (O.written out.new) result }
+    ensures answered { Answered limit tables.now (T.left input.old) (T.left input.new)
+        (O.written out.old) (O.written out.new) result }
     ensures read { IsErrOf result Fault.Read → Rose (T.faults input.old) (T.faults input.new) }
     ensures write { IsErrOf result Fault.Write → Rose (O.faults out.old) (O.faults out.new) }
     ensures too_much { (bytes : List ℕ) × Consumes (T.left input.old) (T.left input.new) bytes
@@ -66,14 +70,13 @@ pub(crate) fn answer_vaulted<T: Source, O: Sink>(
     prove!(count <= 4096);
     let keys = tables.root_keys(alloc)?;
     let ring = KeyRing::new(alloc, &keys)?;
-    let other = KeyRing::new(alloc, &keys)?;
-    let encrypt = move |i: u32, kind: RootKind, block: [u8; 16]| -> [u8; 16]
+    let encrypt = |i: u32, kind: RootKind, block: [u8; 16]| -> [u8; 16]
         requires { i < length ring }
         ensures { result ≡ encrypted (root_key ring kind i) block }
     { ring.encrypt(i, kind, block) };
-    let decrypt = move |i: u32, kind: RootKind, block: [u8; 16]| -> [u8; 16]
-        requires { i < length other }
-        ensures { result ≡ decrypted (root_key other kind i) block }
-    { other.decrypt(i, kind, block) };
-    with_closures(alloc, limit, tables, &keys, encrypt, decrypt, input, out)
+    let decrypt = |i: u32, kind: RootKind, block: [u8; 16]| -> [u8; 16]
+        requires { i < length ring }
+        ensures { result ≡ decrypted (root_key ring kind i) block }
+    { ring.decrypt(i, kind, block) };
+    with_closures(alloc, limit, tables, keys, encrypt, decrypt, input, out)
 }

@@ -11,8 +11,8 @@ pub(crate) enum Command {
     Answer,
 }
 
-/// The places of the words that name files and addresses, and the number of workers, which is 0 for a
-/// command without any.
+/// The places of the words that name files and addresses, and the number of workers, which is 0 for
+/// a command without any.
 #[derive(Clone, Copy, Debug, PartialEq, Eq)]
 pub struct WordFiles {
     pub tables: Option<usize>,
@@ -51,7 +51,8 @@ pub(crate) fn command_of(words: &[String]) -> Option<Command>
 /// What a caller of `run` prepares for these words, or None exactly where they are no command:
 /// `check --tables PATH` or `answer --tables PATH --journal PATH`.
 pub fn files_of(words: &[String]) -> Option<WordFiles>
-    ensures found { IfSome result (λ found. (command : Asked) × Spells words.now command × (found ≡ files command)) }
+    ensures found { IfSome result (λ found. (command : Asked) × Spells words.now command
+        × (found ≡ files command)) }
     ensures none { IfNone result (SpellsNone words.now) }
 {
     match command_of(words)? {

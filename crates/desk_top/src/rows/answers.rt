@@ -8,7 +8,8 @@ use std::test::Fail;
 pub(crate) type Parts = &'static [&'static str];
 
 pub(crate) const MALFORMED: &str =
-    "{\"MessageType\":\"ErrorNotif\",\"Result\":{\"Description\":\"message\",\"ResultCode\":\"MalformedRequest\"}}\n";
+    "{\"MessageType\":\"ErrorNotif\",\"Result\":{\"Description\":\"message\",\
+    \"ResultCode\":\"MalformedRequest\"}}\n";
 
 /// The text of an answer.
 pub(crate) fn text(alloc: Global, parts: Parts) -> Result<String, Fail> {

@@ -1,8 +1,9 @@
-//! Conversations: requests one after another, and the exact answer to each. A blank line ends a request
-//! or an answer, and a line break within one counts for nothing. The frames and keys were made with the
-//! Python package cryptography.
+//! Conversations: requests one after another, and the exact answer to each. A blank line ends a
+//! request or an answer, and a line break within one counts for nothing. The frames and keys were
+//! made with the Python package cryptography.
 
-/// Joins, a repeated one, and an application that asks for its keys.
+/// Joins, a repeated one, one that is repeated with a wrong MIC, which is refused for the MIC, and
+/// an application that asks for its keys.
 pub(crate) const SESSIONS: &str =
     r#"{"ProtocolVersion":"1.1","SenderID":"000014","ReceiverID":"70b3d57ed0000001",
 "TransactionID":1,"MessageType":"JoinReq","MACVersion":"1.1",
@@ -12,6 +13,11 @@ pub(crate) const SESSIONS: &str =
 {"ProtocolVersion":"1.1","SenderID":"000014","ReceiverID":"70b3d57ed0000001",
 "TransactionID":2,"MessageType":"JoinReq","MACVersion":"1.1",
 "PHYPayload":"00010000d07ed5b370211000d07ed5b3700000843457da","DevEUI":"70b3d57ed0001021",
+"DevAddr":"28000001","DLSettings":"80","RxDelay":1}
+
+{"ProtocolVersion":"1.1","SenderID":"000014","ReceiverID":"70b3d57ed0000001",
+"TransactionID":3,"MessageType":"JoinReq","MACVersion":"1.1",
+"PHYPayload":"00010000d07ed5b370211000d07ed5b3700000843457db","DevEUI":"70b3d57ed0001021",
 "DevAddr":"28000001","DLSettings":"80","RxDelay":1}
 
 {"ProtocolVersion":"1.1","SenderID":"000014","ReceiverID":"70b3d57ed0000001",
@@ -88,6 +94,10 @@ pub(crate) const SESSION_ANSWERS: &str =
 {"MessageType":"JoinAns","ProtocolVersion":"1.1","ReceiverID":"000014",
 "Result":{"Description":"counter","ResultCode":"JoinReqFailed"},
 "SenderID":"70b3d57ed0000001","TransactionID":2}
+
+{"MessageType":"JoinAns","ProtocolVersion":"1.1","ReceiverID":"000014",
+"Result":{"Description":"mic","ResultCode":"MICFailed"},
+"SenderID":"70b3d57ed0000001","TransactionID":3}
 
 {"FNwkSIntKey":{"AESKey":"16a8436429bb003ed7338eeb2a5b6228d3b6de8da457d073",
 "KEKLabel":"net-14"},"Lifetime":31536000,"MessageType":"JoinAns",
@@ -172,6 +182,29 @@ pub(crate) const SESSION_ANSWERS: &str =
 "ResultCode":"Success"},
 "SNwkSIntKey":{"AESKey":"c240ce19fd6505332e3e4ef12fbfb9a64d28296ed0badfc7",
 "KEKLabel":"net-14"},"SenderID":"70b3d57ed0000001","SessionKeyID":"70b3d57ed0001022000001",
+"TransactionID":1}
+"#;
+
+/// A first join with channels, whose DevNonce is 1.
+pub(crate) const CHANNELS: &str =
+    r#"{"ProtocolVersion":"1.1","SenderID":"000014","ReceiverID":"70b3d57ed0000001",
+"TransactionID":1,"MessageType":"JoinReq","MACVersion":"1.1",
+"PHYPayload":"00010000d07ed5b370211000d07ed5b37001003b9514ac","DevEUI":"70b3d57ed0001021",
+"DevAddr":"28000001","DLSettings":"80","RxDelay":1,
+"CFList":"184f84e85684b85e84886684586e8400"}
+"#;
+
+/// Its answer.
+pub(crate) const CHANNELS_ANSWER: &str =
+    r#"{"FNwkSIntKey":{"AESKey":"e04e852819d4a7b5c2868fd9cecdd5645c0d17767cd64109",
+"KEKLabel":"net-14"},"Lifetime":31536000,"MessageType":"JoinAns",
+"NwkSEncKey":{"AESKey":"d833e44aa26ee59a316b4f03ffb0249ab3bbbc5382054a67",
+"KEKLabel":"net-14"},
+"PHYPayload":"205fd10de2e7409fae0ad3d04570fafbb6ab317f088397eaac88ff4c1119864a4b",
+"ProtocolVersion":"1.1","ReceiverID":"000014","Result":{"Description":"",
+"ResultCode":"Success"},
+"SNwkSIntKey":{"AESKey":"0959064265db6fc307a3cc22356162a1d0eeeafe1db1dae3",
+"KEKLabel":"net-14"},"SenderID":"70b3d57ed0000001","SessionKeyID":"70b3d57ed0001021000001",
 "TransactionID":1}
 "#;
 

@@ -1,4 +1,4 @@
-//! Lines that are no readable message, whatever is wrong with them.
+//! Lines that are no readable message, whatever is wrong with them, and members that nobody reads.
 
 /// Each of these lines is answered as a malformed one.
 pub(crate) const HOSTILE: &[&[u8]] = &[
@@ -39,4 +39,24 @@ pub(crate) const HOSTILE: &[&[u8]] = &[
     b"{\"ProtocolVersion\":\"1.1\",\"ProtocolVersion\":null}",
     b"{\"ProtocolVersion\":\"1.1\",\"SenderID\":\"000014\",\"SenderID\":14}",
     b"{\"protocolversion\":\"1.1\"}",
+];
+
+/// Members that make any line malformed.
+pub(crate) const HOSTILE_MEMBERS: &[&[u8]] = &[
+    b"\"x\":1e999",
+    b"\"x\":\"\\ud800\"",
+    b"\"x\":\"\xff\"",
+];
+
+/// Members that may stand in front of the valid join's: nobody reads them, or the last one of the
+/// same name counts.
+pub(crate) const UNREAD_MEMBERS: &[&[u8]] = &[
+    b"\"x\":1.0",
+    b"\"x\":1e0",
+    b"\"x\":-0",
+    b"\"x\":4294967296",
+    b"\"x\":18446744073709551616",
+    b"\"x\":null",
+    b"\"RxDelay\":16",
+    b"\"SenderID\":null",
 ];

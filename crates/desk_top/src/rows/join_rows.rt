@@ -3,8 +3,8 @@
 use super::answers::Parts;
 use super::lines::Member;
 
-/// A row: the members that differ from a valid join, an empty value for one that is left out; and the
-/// parts of the answer.
+/// A row: the members that differ from a valid join, an empty value for one that is left out; and
+/// the parts of the answer.
 pub(crate) type Row = (&'static [Member], Parts);
 
 /// The answer of a line that is no readable message.
@@ -62,6 +62,16 @@ const MIC: Parts = &[
     "70b3d57ed0000001",
     "mic",
     "MICFailed",
+];
+
+/// The refusal of a DevNonce that isn't above the last one.
+pub(crate) const COUNTER: Parts = &[
+    "JoinAns",
+    "1.1",
+    "000014",
+    "70b3d57ed0000001",
+    "counter",
+    "JoinReqFailed",
 ];
 
 /// Each member missing.
@@ -261,6 +271,20 @@ pub(crate) const RULES: &[Row] = &[
             "000013",
             "type",
             "MalformedRequest",
+        ],
+    ),
+    (
+        &[
+            ("MessageType", "\"HomeNSReq\""),
+            ("ProtocolVersion", "\"2.0\""),
+        ],
+        &[
+            "ErrorNotif",
+            "1.1",
+            "000014",
+            "70b3d57ed0000001",
+            "version",
+            "InvalidProtocolVersion",
         ],
     ),
     (

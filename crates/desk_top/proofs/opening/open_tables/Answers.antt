@@ -10,7 +10,7 @@ pub returns-clause-refused : goal.returns-clause-refused
 returns-clause-refused g c = λ refusal is.
     let same : c.refused.result ≡ fault.Tables refusal = cc in
     let told = c.refused.ensures.told refusal same in
-    tables_read _ _ _ c.in_ok-text.ensures.text (rw (c.deref.ensures.value, ← told.0) at (c.in-Err.ensures told.1))
+    (tables_read _ _ _ c.in_ok-text.ensures.text (rw (c.deref.ensures.value, ← told.0) at (c.in-Err.ensures told.1)), rw told.0 told.1)
 
 pub returns-clause-read : goal.returns-clause-read
 returns-clause-read g c = λ is.

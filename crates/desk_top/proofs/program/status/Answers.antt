@@ -12,12 +12,12 @@ returns-in-Ok-clause-checks g c = λ is spells. c.in-Ok.ensures.done Check spell
 pub returns-in-Err-Usage-clause-usage_line : goal.returns-in-Err-Usage-clause-usage_line
 returns-in-Err-Usage-clause-usage_line g c =
     let same = c.in-Err-Usage.ensures.usage_keeps (ap Err c.in-Err-Usage.field-0-is) in
-    λ is. rw same at c.print.ensures.prints
+    λ is. rw same.0 at c.print.ensures.prints
 
 pub returns-in-Ok-refused_text-clause-refused : goal.returns-in-Ok-refused_text-clause-refused
 returns-in-Ok-refused_text-clause-refused g c =
     let known = c.in-Err-Tables.ensures.refused c.in-Err-Tables.refusal (ap Err c.in-Err-Tables.field-0-is) in
-    λ is. (c.in-Err-Tables.refusal, known.0, rw (known.1, c.deref.ensures.value, c.in-Ok-refused_text.ensures) at c.print-in-Ok-refused_text.ensures.prints)
+    λ is. (c.in-Err-Tables.refusal, known.1, known.0, rw (known.2, c.deref.ensures.value, c.in-Ok-refused_text.ensures) at c.print-in-Ok-refused_text.ensures.prints)
 
 pub returns-in-Err-Tables-clause-answers_memory : goal.returns-in-Err-Tables-clause-answers_memory
 returns-in-Err-Tables-clause-answers_memory g c = λ is spells. inl ((rw c.in-Err-Tables.field-0-is at c.in-Err-Tables.ensures.done) Answer spells)
@@ -55,3 +55,8 @@ returns-clause-answers_memory g c = λ is spells. (rw c.in-Err-Memory.field-0-is
 
 pub returns-clause-checks_memory : goal.returns-clause-checks_memory
 returns-clause-checks_memory g c = λ is spells. (rw c.in-Err-Memory.field-0-is at c.in-Err-Memory.ensures.done) Check spells
+
+pub returns-in-Ok-refused_text-clause-refused_reads : goal.returns-in-Ok-refused_text-clause-refused_reads
+returns-in-Ok-refused_text-clause-refused_reads g c =
+    let known = c.in-Err-Tables.ensures.refused c.in-Err-Tables.refusal (ap Err c.in-Err-Tables.field-0-is) in
+    λ is. known.3

@@ -2,8 +2,9 @@ ghost use Rattle.std.specs.Prelude.{◌≡◌, ◌≤◌, None, IsErr};
 ghost use Rattle.std.specs.Io.{ReadsAtMost};
 ghost use Rattle.wire_ids.specs.Causes.{HasCause, Rose};
 
-use disk_model::{Failed, Sink, Source};
+use disk_model::{Clock, Failed, Sink, Source};
 use std::io::{Read, Write};
+use std::time;
 
 // Counts a fault. The count stands still at its type's end.
 fn failed(faults: &mut u64) -> Failed
@@ -102,5 +103,30 @@ impl<F: Read> Source for FileSource<F> {
             }
         }
         Err(failed(&mut self.faults))
+    }
+}
+
+/// The system's clock. Where it can't be read it tells what it told last, and 0 at first.
+#[derive(Drop)]
+pub struct WallClock<'a, R: time::Clock> {
+    rt: &'a R,
+    last: u64,
+}
+
+impl<'a, R: time::Clock> WallClock<'a, R> {
+    /// The clock of this runtime.
+    pub fn new(rt: &'a R) -> Self {
+        WallClock { rt, last: 0 }
+    }
+}
+
+impl<'a, R: time::Clock> Clock for WallClock<'a, R> {
+    ghost tells = { λ _. None };
+
+    fn now(&mut self) -> u64 {
+        if let Ok(since) = self.rt.since_1970() {
+            self.last = since.as_secs();
+        }
+        self.last
     }
 }

@@ -2,12 +2,14 @@
 #![tactic(auto)]
 
 mod adapters;
+#[cfg(test)]
+mod tests;
 
 ghost use Rattle.std.specs.Prelude.{◌≡◌, ◌<◌};
 
-use adapters::{FileSource, ReadSource, WriteSink};
+use adapters::{FileSource, ReadSource, WallClock, WriteSink};
 use desk_top::{files_of, run};
-use disk_model::{ClosedClock, ClosedDisk, ClosedLink, Ran, Steps};
+use disk_model::{ClosedDisk, ClosedLink, Ran, Steps};
 use std::marker::Brand;
 use std::process::ExitCode;
 use std::rt::Env;
@@ -50,7 +52,7 @@ fn work<G: Ledger>(rt: &HostRuntime, words: &[String], blank: Blank) -> u8
         &mut out,
         ClosedDisk::new(),
         &mut ClosedLink::new(),
-        &mut ClosedClock::new(),
+        &mut WallClock::new(rt),
         &mut steps,
     );
     status

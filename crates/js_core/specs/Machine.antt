@@ -3,10 +3,15 @@ use Rattle.std.specs.Prelude.{◌≡◌, ℕ, List, [], ◌∷◌, length, take,
 use Rattle.wire_ids.specs.declared.keys.Seed.{Seed}
 use Rattle.agreements.specs.Walk.{Config}
 use Rattle.js_core.specs.declared.kept.KeptDevice.{KeptDevice}
+use Rattle.js_core.specs.declared.kept.KeptSeed.{KeptSeed}
 
 -- one kept device for each device row, in table order
 pub record Machine : Type 0 where
   pub devices : List KeptDevice
+
+-- what stands in a place where no seed is kept
+abbrev pub no_seed : KeptSeed
+no_seed = record { seed = record { nonce = 0; join_eui = record { 0 = 0 }; counter = 0 } }
 
 -- the state of these tables
 abbrev pub IsOf : Config → Machine → Type 0

@@ -1,5 +1,5 @@
 ghost use Rattle.std.specs.Prelude.{◌≡◌};
-ghost use Rattle.js_core.specs.Machine.{joined, new_device};
+ghost use Rattle.js_core.specs.Machine.{joined, new_device, no_seed};
 
 use arrayvec::ArrayVec;
 use wire_ids::{Eui, Nonce24, Seed};
@@ -11,7 +11,10 @@ pub struct KeptSeed {
 }
 
 impl Default for KeptSeed {
-    fn default() -> KeptSeed {
+    /// The seed of zeros, which stands where none is kept.
+    fn default() -> KeptSeed
+        ensures { result ≡ no_seed }
+    {
         KeptSeed {
             seed: Seed {
                 nonce: Nonce24::from_be_bytes([0; 3]),

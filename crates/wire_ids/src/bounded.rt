@@ -24,13 +24,13 @@ impl<const MOST: usize> Model for BoundedText<MOST> {
     ghost invariant = { λ t. length t.bytes.items ≤ MOST };
 }
 
-ghost use Rattle.std.specs.Prelude.{◌≡◌, ◌≤◌, ◌==◌, length, nat_le, if◌then◌else◌};
-ghost use Rattle.std.specs.Prelude.{IfOk, Some, None};
+ghost use Rattle.std.specs.Prelude.{◌≡◌, ◌≤◌, ◌==◌, length, IfOk};
+ghost use Rattle.wire_ids.specs.Texts.{bounded};
 
 impl<const MOST: usize> BoundedText<MOST> {
     /// The text of these bytes, or None exactly where they are more than `MOST`. Takes no memory.
     pub fn new(bytes: Vec<u8>) -> Option<Self>
-        ensures { result ≡ (if nat_le (length bytes.items) MOST then Some bytes.items else None) }
+        ensures { result ≡ bounded MOST bytes.items }
     {
         if bytes.len() <= MOST {
             Some(BoundedText { bytes })
@@ -41,15 +41,14 @@ impl<const MOST: usize> BoundedText<MOST> {
 
     /// A copy of these bytes, or None exactly where they are more than `MOST`.
     pub fn of_slice(alloc: Global, bytes: &[u8]) -> Result<Option<Self>, Memory>
-        ensures { IfOk result (λ t. t ≡ (if nat_le (length bytes.now) MOST then Some bytes.now else None)) }
+        ensures { IfOk result (λ t. t ≡ bounded MOST bytes.now) }
     {
-        if bytes.len() <= MOST {
-            Ok(Some(BoundedText {
-                bytes: bytes.to_vec(alloc)?,
-            }))
-        } else {
-            Ok(None)
+        if bytes.len() > MOST {
+            return Ok(None);
         }
+        Ok(Some(BoundedText {
+            bytes: bytes.to_vec(alloc)?,
+        }))
     }
 
     /// Its bytes, in order.

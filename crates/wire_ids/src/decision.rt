@@ -24,7 +24,8 @@ impl<A, Q, E> Decision<A, Q, E> {
     {
         match self {
             Decision::Repeat(_) | Decision::Reply(_) => None,
-            Decision::Accept(_, entry) | Decision::AskPeer(_, _, entry) => Some(entry),
+            Decision::Accept(_, entry) => Some(entry),
+            Decision::AskPeer(_, _, entry) => Some(entry),
         }
     }
 }

@@ -1,6 +1,6 @@
 //! Laws of the definitions, that speak of all identifiers.
 
-ghost use Rattle.std.specs.Prelude.{◌≡◌, ◌≢◌, ◌<◌, ◌*◌, ◌^◌, ◌↔◌, ℕ, List, length, Ok, Err};
+ghost use Rattle.std.specs.Prelude.{◌≡◌, ◌≢◌, ◌<◌, ◌*◌, ◌^◌, ◌↔◌, ◌∷◌, [], ℕ, List, length, Ok, Err};
 ghost use Rattle.std.specs.Prelude.{Bool, Option, Some, None, false, option_map, slice_get};
 ghost use Rattle.wire_ids.specs.Addresses.{HasSameIdentifier, SharesAnAddress};
 ghost use Rattle.wire_ids.specs.Decisions.{entry_of, reply_by};
@@ -23,9 +23,11 @@ pub fn digits_are_read()
     ensures net { (net : ℕ) → net < 2 ^ 24 → read_net (net_digits net) ≡ Ok net }
 {}
 
-/// The bytes of a number of 24 bits in a frame are read as that number.
+/// The bytes of a number of 24 bits in a frame are read as that number, and no other three bytes.
 pub fn wire_bytes_are_read()
-    ensures { (n : ℕ) → n < 2 ^ 24 → wire_number (wire_bytes n) ≡ n }
+    ensures number { (n : ℕ) → n < 2 ^ 24 → wire_number (wire_bytes n) ≡ n }
+    ensures bytes { (a b c : ℕ) → a < 256 → b < 256 → c < 256
+        → wire_bytes (wire_number (a ∷ b ∷ c ∷ [])) ≡ a ∷ b ∷ c ∷ [] }
 {}
 
 /// A text is refused for its length exactly where it has another number of digits, and at a place

@@ -23,6 +23,7 @@ mod three;
 pub use address::{DevAddr, address_of, net_matches};
 pub use bounded::{BoundedText, LongText, ShortText};
 pub use decision::Decision;
+pub use digits::without_prefix;
 pub use eui::Eui;
 pub use faults::{FrameFault, IdFault};
 pub use keys::{RootKeys, Seed, SessionKeys};

@@ -1,7 +1,8 @@
 //! Laws of the definitions, that speak of all identifiers.
 
 ghost use Rattle.std.specs.Prelude.{◌≡◌, ◌≢◌, ◌<◌, ◌*◌, ◌^◌, ◌↔◌, ℕ, List, ◌∷◌, [], length};
-ghost use Rattle.std.specs.Prelude.{Bool, Option, Some, None, Ok, Err, false, option_map, slice_get};
+ghost use Rattle.std.specs.Prelude.{Bool, Option, Some, None, Ok, Err, false};
+ghost use Rattle.std.specs.Prelude.{option_map, slice_get};
 ghost use Rattle.wire_ids.specs.Addresses.{HasSameIdentifier, SharesAnAddress};
 ghost use Rattle.wire_ids.specs.Decisions.{entry_of, reply_by};
 ghost use Rattle.wire_ids.specs.Digits.{IsFirstBad, id_bytes, without_prefix};

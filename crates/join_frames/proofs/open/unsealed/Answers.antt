@@ -1,4 +1,4 @@
-use Rattle.std.proofs.Common.{rules, ◌≡◌, ◌∙◌, inl, inr, sym, ap, refl, Some, Option, List, ℕ, slice_index_or, drop, arith}
+use Rattle.std.proofs.Common.{rules, ◌≡◌, ◌∙◌, inl, inr, sym, ap, refl, Some, Option, List, ℕ, drop, arith}
 use Rattle.key_vault.specs.Table.{accept_key}
 use Rattle.join_frames.specs.Accepts.{accept_mic, is_rejoin}
 use Rattle.join_frames.specs.declared.accept.Accept.{Accept}

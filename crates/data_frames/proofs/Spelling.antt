@@ -1,8 +1,8 @@
 -- An uplink by the pieces of its bytes, and that it has one reading.
-use Rattle.std.proofs.Common.{◌≡◌, ℕ, suc, add-one, ◌+◌, ◌-◌, ◌*◌, ◌/◌, ◌%◌, ◌<◌, ◌≤◌, ◌^◌, Bool, true, false, cond, eqb, List, [], ◌∷◌, ◌++◌, length, take, drop, slice_index_or, Option, Some, None, refl, sym, subst, ◌∙◌, ap, arith, inl, inr, append_assoc, length-append, length-drop}
-use Rattle.std.proofs.lemmas.Bool.{cases_eq, eq-eqb}
+use Rattle.std.proofs.Common.{◌≡◌, ℕ, suc, add-one, ◌+◌, ◌-◌, ◌*◌, ◌/◌, ◌%◌, ◌<◌, ◌≤◌, ◌^◌, Bool, true, false, eqb, List, [], ◌∷◌, ◌++◌, length, take, drop, slice_index_or, Option, Some, None, refl, sym, subst, ◌∙◌, ap, arith, inl, inr, append_assoc, length-append}
+use Rattle.std.proofs.lemmas.Bool.{cases_eq}
 use Rattle.std.proofs.lemmas.Bool.Decides.{nat_tests}
-use Rattle.std.proofs.lemmas.List.{take-append-drop, take_all, drop-drop, take_at, drop_at, append_cancel_right}
+use Rattle.std.proofs.lemmas.List.{take-append-drop, drop-drop, take_at, drop_at}
 use Rattle.std.proofs.Math.Seq.{drop-cons}
 use Rattle.std.proofs.lemmas.Nat.{from_le_bytes-to_le_bytes_2, from_le_bytes-to_le_bytes_4}
 use Rattle.std.specs.Int.{w16, w32, to_le_bytes, from_le_bytes}
@@ -135,9 +135,17 @@ at_seam a b s t same e =
 
 made : Bool → DevAddr → Bool → Bool → Bool → Bool → ℕ → List ℕ → Option ℕ → List ℕ → List ℕ → Uplink
 made confirmed addr adr req ack class_b wire fopts port payload mic = record {
-  confirmed = confirmed; addr = addr;
-  adr = adr; adr_ack_req = req; ack = ack; class_b = class_b;
-  wire = wire; fopts = fopts; port = port; payload = payload; mic = mic;
+  confirmed = confirmed;
+  addr = addr;
+  adr = adr;
+  adr_ack_req = req;
+  ack = ack;
+  class_b = class_b;
+  wire = wire;
+  fopts = fopts;
+  port = port;
+  payload = payload;
+  mic = mic;
 }
 
 eta : {u v : Uplink} → made u.confirmed u.addr u.adr u.adr_ack_req u.ack u.class_b u.wire u.fopts u.port u.payload u.mic
@@ -171,7 +179,7 @@ one_reading bytes u v f g =
     let payload_same : u.payload ≡ v.payload = pp.1 in
     let mic_same : u.mic ≡ v.mic = seam.1 in
     let made_same : made u.confirmed u.addr u.adr u.adr_ack_req u.ack u.class_b u.wire u.fopts u.port u.payload u.mic
-        ≡ made v.confirmed v.addr v.adr v.adr_ack_req v.ack v.class_b v.wire v.fopts v.port v.payload v.mic = cc in
+    ≡ made v.confirmed v.addr v.adr v.adr_ack_req v.ack v.class_b v.wire v.fopts v.port v.payload v.mic = cc in
     eta made_same
 
 pub spelled_by : (s : List ℕ) (u : Uplink) (at end : ℕ)

@@ -1,12 +1,12 @@
 -- Frames that are written, and what is read of them.
-use Rattle.std.proofs.Common.{inl, inr, ◌≡◌, ℕ, zero, suc, ◌+◌, ◌-◌, ◌/◌, ◌*◌, ◌%◌, ◌<◌, ◌≤◌, ◌^◌, List, [], ◌∷◌, ◌++◌, length, take, drop, slice_index_or, Option, Some, None, refl, sym, subst, ◌∙◌, ap, arith, length-append}
+use Rattle.std.proofs.Common.{inl, inr, ◌≡◌, ℕ, ◌+◌, ◌-◌, ◌%◌, ◌<◌, ◌≤◌, ◌^◌, List, [], ◌∷◌, ◌++◌, length, slice_index_or, Option, Some, None, refl, sym, ◌∙◌, ap, arith, length-append}
 use Rattle.std.proofs.lemmas.Bool.{cases_lt}
 use Rattle.std.proofs.lemmas.List.{take_at, drop_at}
 use Rattle.wire_ids.specs.declared.keys.SessionKeys.{SessionKeys}
 use Rattle.data_frames.specs.declared.downlink.Down.{Down}
 use Rattle.data_frames.specs.declared.sending.UpParts.{UpParts}
 use Rattle.data_frames.specs.declared.uplink.DataUp.{DataUp}
-use Rattle.data_frames.specs.Counts.{IsAbove, IsFullCount, MayCount}
+use Rattle.data_frames.specs.Counts.{IsFullCount}
 use Rattle.data_frames.specs.DataForms.{DataForm, Uplink, fields_of, port_and_payload, up_message}
 use Rattle.data_frames.specs.Downlinks.{HasDownMic, down_conf, down_message, down_text, parts_of, sent}
 use Rattle.data_frames.specs.Mics.{HasUpMic, down_mic, f_half, s_half, up_mic, without_mic}

@@ -4,7 +4,7 @@ ghost use Rattle.data_frames.specs.Downlinks.{down_message, down_text};
 
 use crate::DownBytes;
 use crate::buffer::{Fields, message};
-use crate::mic::{Told, mac_of};
+use crate::mic::{BlockFields, mac_of};
 use aes_cmac::RoundKeys;
 use wire_ids::{DevAddr, SessionKeys};
 
@@ -73,7 +73,7 @@ pub fn write_down(keys: &SessionKeys, down: &Down<'_>) -> DownBytes
     ensures { result ≡ down_text keys.now down.now }
 {
     let frame = down_message(down);
-    let told = Told {
+    let fields = BlockFields {
         conf: down.conf(),
         rate: 0,
         channel: 0,
@@ -81,7 +81,7 @@ pub fn write_down(keys: &SessionKeys, down: &Down<'_>) -> DownBytes
     };
     let mac = mac_of(
         &RoundKeys::new(&keys.s),
-        told,
+        fields,
         down.addr,
         down.count,
         frame.as_slice(),

@@ -11,19 +11,26 @@ use wire_ids::{DevAddr, SessionKeys};
 
 /// What a MIC's first block tells beside the frame's address, counter and length.
 #[derive(Clone, Copy)]
-pub(crate) struct Told {
+pub(crate) struct BlockFields {
     pub conf: u16,
     pub rate: u8,
     pub channel: u8,
     pub dir: u8,
 }
 
-fn mic_block(told: Told, addr: DevAddr, count: u32, len: u8) -> [u8; 16]
-    ensures { result ≡ mic_block told.conf told.rate told.channel told.dir addr count len }
+fn mic_block(fields: BlockFields, addr: DevAddr, count: u32, len: u8) -> [u8; 16]
+    ensures { result ≡ mic_block fields.conf fields.rate fields.channel fields.dir addr count len }
 {
-    let [conf_low, conf_high] = told.conf.to_le_bytes();
+    let [conf_low, conf_high] = fields.conf.to_le_bytes();
     let mut block = [0; 16];
-    block[..6].copy_from_slice(&[0x49, conf_low, conf_high, told.rate, told.channel, told.dir]);
+    block[..6].copy_from_slice(&[
+        0x49,
+        conf_low,
+        conf_high,
+        fields.rate,
+        fields.channel,
+        fields.dir,
+    ]);
     block[6..10].copy_from_slice(&addr.to_wire());
     block[10..14].copy_from_slice(&count.to_le_bytes());
     block[15] = len;
@@ -33,17 +40,17 @@ fn mic_block(told: Told, addr: DevAddr, count: u32, len: u8) -> [u8; 16]
 // The CMAC of the block and the message.
 pub(crate) fn mac_of(
     keys: &RoundKeys,
-    told: Told,
+    fields: BlockFields,
     addr: DevAddr,
     count: u32,
     message: &[u8],
 ) -> [u8; 16]
     requires { length message.now ≤ 255 }
     ensures { result ≡ mac keys.now
-        (mic_block told.conf told.rate told.channel told.dir addr count (length message.now)
+        (mic_block fields.conf fields.rate fields.channel fields.dir addr count (length message.now)
         ++ message.now) }
 {
-    let block = mic_block(told, addr, count, message.len() as u8);
+    let block = mic_block(fields, addr, count, message.len() as u8);
     let mut mac = Cmac::new(keys);
     mac.update(&block);
     mac.update(message);
@@ -56,19 +63,19 @@ pub(crate) fn f_half(f: &[u8; 16], addr: DevAddr, count: u32, message: &[u8]) ->
     requires { length message.now ≤ 255 }
     ensures { result ≡ f_half f.now addr count message.now }
 {
-    let told = Told {
+    let fields = BlockFields {
         conf: 0,
         rate: 0,
         channel: 0,
         dir: 0,
     };
-    let mac = mac_of(&RoundKeys::new(f), told, addr, count, message);
+    let mac = mac_of(&RoundKeys::new(f), fields, addr, count, message);
     [mac[0], mac[1]]
 }
 
 /// What an uplink's S half tells beside its F half.
 #[derive(Clone, Copy)]
-pub(crate) struct Sent {
+pub(crate) struct B1Fields {
     pub conf: u16,
     pub rate: u8,
     pub channel: u8,
@@ -80,19 +87,19 @@ pub(crate) fn s_half(
     keys: &RoundKeys,
     addr: DevAddr,
     count: u32,
-    sent: Sent,
+    sent: B1Fields,
     message: &[u8],
 ) -> [u8; 2]
     requires { length message.now ≤ 255 }
     ensures { result ≡ s_half keys.now addr count sent.conf sent.rate sent.channel message.now }
 {
-    let told = Told {
+    let fields = BlockFields {
         conf: sent.conf,
         rate: sent.rate,
         channel: sent.channel,
         dir: 0,
     };
-    let mac = mac_of(keys, told, addr, count, message);
+    let mac = mac_of(keys, fields, addr, count, message);
     [mac[0], mac[1]]
 }
 
@@ -109,7 +116,7 @@ pub fn mic_f_ok(f: &[u8; 16], up: &DataUp<'_>, count: u32) -> bool
 }
 
 // Whether the S half is that of the frame as it was sent.
-fn has_s_half(keys: &RoundKeys, up: &DataUp<'_>, count: u32, sent: Sent) -> bool
+fn has_s_half(keys: &RoundKeys, up: &DataUp<'_>, count: u32, sent: B1Fields) -> bool
     requires least { 4 ≤ length up.now.whole.now }
     requires most { length up.now.whole.now ≤ 255 }
     ensures { IsTrue result ↔ HasSHalf keys.now up.now count sent.conf sent.rate sent.channel }
@@ -127,7 +134,7 @@ fn is_enabled(channels: u8, channel: u8) -> bool
 }
 
 // Whether the channel is enabled, and the S half that of the frame on it.
-fn fits(keys: &RoundKeys, up: &DataUp<'_>, count: u32, channels: u8, sent: Sent) -> bool
+fn fits(keys: &RoundKeys, up: &DataUp<'_>, count: u32, channels: u8, sent: B1Fields) -> bool
     requires channel { sent.channel < 8 }
     requires least { 4 ≤ length up.now.whole.now }
     requires most { length up.now.whole.now ≤ 255 }
@@ -158,7 +165,7 @@ pub fn mic_up_ok(
     }
     let s = RoundKeys::new(&keys.s);
     'channels: for channel in 0..8 {
-        let sent = Sent {
+        let sent = B1Fields {
             conf,
             rate,
             channel,

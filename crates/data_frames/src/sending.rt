@@ -7,7 +7,7 @@ ghost use Rattle.data_frames.specs.Mics.{up_mic};
 
 use crate::DownBytes;
 use crate::buffer::{Fields, message};
-use crate::mic::{Sent, f_half, s_half};
+use crate::mic::{B1Fields, f_half, s_half};
 use aes_cmac::RoundKeys;
 use wire_ids::{DevAddr, SessionKeys};
 
@@ -75,7 +75,7 @@ pub fn up_bytes(keys: &SessionKeys, up: &UpParts<'_>) -> DownBytes
 {
     let frame = up_message(up);
     let message = frame.as_slice();
-    let last = Sent {
+    let last = B1Fields {
         conf: up.conf,
         rate: up.rate,
         channel: up.channel,

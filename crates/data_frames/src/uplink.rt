@@ -80,6 +80,7 @@ fn port_of(rest: &[u8]) -> (Option<u8>, &[u8])
 pub fn read_data(frame: &[u8]) -> Result<DataUp<'_>, FrameFault>
     ensures form { IfOk result (λ u. DataForm frame.now (fields_of u)) }
     ensures whole { IfOk result (λ u. u.whole.now ≡ frame.now) }
+    ensures size { IfOk result (λ u. (12 ≤ length u.whole.now) × (length u.whole.now ≤ 255)) }
     ensures only { (v : Uplink) → DataForm frame.now v
         → IsOk result × IfOk result (λ u. fields_of u ≡ v) }
     ensures fault { IfErr result (λ e. data_fault frame.now ≡ Some e) }

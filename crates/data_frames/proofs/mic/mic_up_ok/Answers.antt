@@ -1,7 +1,7 @@
-use Rattle.std.proofs.Common.{rules, IsTrue, ℕ, ◌<◌, ◌≤◌, ◌≡◌, inl, inr, arith, subst, true, sym}
-use Rattle.std.proofs.lemmas.Bool.{cases_lt, cases_eq}
+use Rattle.std.proofs.Common.{rules, IsTrue, ◌≡◌, inl, inr, arith, subst, sym}
+use Rattle.std.proofs.lemmas.Bool.{cases_lt}
 use Rattle.data_frames.proofs.Halves.{enabled_low, f_half_of, mic_of_halves, s_half_of}
-use Rattle.data_frames.specs.Mics.{Fits, HasFHalf, HasSHalf, IsEnabled, IsChannel}
+use Rattle.data_frames.specs.Mics.{Fits, HasFHalf, HasSHalf}
 use Rattle.data_frames.proofs.mic.mic_up_ok.Goals as goal
 
 pub returns-then-not-mic_f_ok-clause-none : goal.returns-then-not-mic_f_ok-clause-none

@@ -1,4 +1,4 @@
-use Rattle.std.proofs.Common.{rules, ◌+◌, ◌-◌, ◌≤◌, length, ◌≡◌, ◌∙◌, sym, refl, ap, Some, None}
+use Rattle.std.proofs.Common.{rules, ◌+◌, ◌-◌, ◌≤◌, length, ◌≡◌, refl}
 use Rattle.data_frames.proofs.Spelling.{form_has_no_fault, one_reading, spelled_by, fctrl_of}
 use Rattle.data_frames.specs.DataForms.{data_fault}
 use Rattle.data_frames.proofs.uplink.read_data.Goals as goal

@@ -1,0 +1,14 @@
+//! What the desk writes down: the entries of its journal, each with its one spelling in bytes.
+#![tactic(auto)]
+
+mod ask;
+mod change;
+mod entry;
+mod used_seed;
+
+pub use ask::{AskKind, AskOutcome, Effect, HeldCount, HeldSession, NewAsk, NewVisitor};
+pub use ask::{RejoinCount, Target};
+pub use change::{Change, Downlink, Joined, Lending, OwnContext, PassiveUplink};
+pub use change::{Queued, Rejoined, RoamingKind, Stopped, Uplink};
+pub use entry::{Entry, Event, Request};
+pub use used_seed::{SeedPlace, UsedSeed};

@@ -1,5 +1,6 @@
 -- Each step of a queue keeps what holds of every context.
 use Rattle.std.proofs.Common.{◌≡◌, ℕ, ◌+◌, ◌<◌, ◌≤◌, ◌^◌, List, [], ◌∷◌, ◌++◌, length, refl, sym, subst, arith}
+use Rattle.std.specs.Prelude.{remove}
 use Rattle.std.proofs.lemmas.List.{length-append}
 use Rattle.contexts.specs.declared.context.Context.{Context}
 use Rattle.contexts.specs.declared.context.Item.{Item}
@@ -21,6 +22,10 @@ sound-pushed item c le small room h = record {
   next_n = h.next_n;
   next_a = omega arith;
 }
+
+pub Rises-remove : (items : List Item) (next : ℕ) → Rises 0 items next → Rises 0 (remove items 0) next
+Rises-remove [] next h = h
+Rises-remove (item ∷ items) next h = Rises-lower (item.number + 1) 0 items next (omega arith) h.1
 
 sound-without_first : (items : List Item) (c : Context) → items ≡ c.queue.items → IsSoundContext c → IsSoundContext (without_first items c)
 sound-without_first [] c e h = h

@@ -10,7 +10,7 @@ pub enum AskKind {
 }
 
 /// The RJcount0 of a visitor's rejoin of type 0 or 2.
-#[derive(Clone, Copy, Debug, PartialEq, Eq)]
+#[derive(Clone, Copy)]
 pub struct RejoinCount {
     pub count: u16,
     /// Whether it was checked under the pending context.
@@ -50,7 +50,7 @@ pub struct NewAsk {
 }
 
 /// A visitor that the home network's answer makes or renews.
-#[derive(Clone, Copy, Debug, PartialEq, Eq)]
+#[derive(Clone, Copy)]
 pub struct NewVisitor {
     pub dev_eui: Eui,
     pub home: NetId,
@@ -61,7 +61,7 @@ pub struct NewVisitor {
 }
 
 /// A passive session that a network granted.
-#[derive(Clone, Copy, Debug, PartialEq, Eq)]
+#[derive(Clone, Copy)]
 pub struct HeldSession {
     pub net: NetId,
     pub dev_addr: DevAddr,
@@ -74,7 +74,7 @@ pub struct HeldSession {
 }
 
 /// The full counter of the last uplink of a held session.
-#[derive(Clone, Copy, Debug, PartialEq, Eq)]
+#[derive(Clone, Copy)]
 pub struct HeldCount {
     pub net: NetId,
     pub dev_addr: DevAddr,
@@ -82,7 +82,7 @@ pub struct HeldCount {
 }
 
 /// What an ask leads to.
-#[derive(Clone, Copy, Debug, PartialEq, Eq)]
+#[derive(Clone, Copy)]
 pub enum Effect {
     Nothing,
     Visitor(NewVisitor),

@@ -21,14 +21,14 @@ pub enum Change {
 }
 
 /// The context that this desk gives a device at home here.
-#[derive(Clone, Copy, Debug, PartialEq, Eq)]
+#[derive(Clone, Copy)]
 pub struct OwnContext {
     pub dev_addr: DevAddr,
     pub radio: Radio,
 }
 
 /// A join, by the device's number in the tables.
-#[derive(Clone, Copy, Debug, PartialEq, Eq)]
+#[derive(Clone, Copy)]
 pub struct Joined {
     pub device: u32,
     /// The DevNonce.
@@ -38,7 +38,7 @@ pub struct Joined {
 }
 
 /// A rejoin, by the device's number in the tables.
-#[derive(Clone, Copy, Debug, PartialEq, Eq)]
+#[derive(Clone, Copy)]
 pub struct Rejoined {
     pub device: u32,
     pub used: UsedSeed,
@@ -49,7 +49,7 @@ pub struct Rejoined {
 }
 
 /// A join, or a rejoin with its used seed, for the network to which the device is lent.
-#[derive(Clone, Copy, Debug, PartialEq, Eq)]
+#[derive(Clone, Copy)]
 pub struct Lending {
     pub used: Option<UsedSeed>,
     pub device: u32,
@@ -115,7 +115,7 @@ pub enum RoamingKind {
 }
 
 /// The end of a device's roaming.
-#[derive(Clone, Copy, Debug, PartialEq, Eq)]
+#[derive(Clone, Copy)]
 pub struct Stopped {
     pub dev_eui: Eui,
     pub what: RoamingKind,

@@ -6,9 +6,12 @@ mod change;
 mod entry;
 mod used_seed;
 
-pub use ask::{AskKind, AskOutcome, Effect, HeldCount, HeldSession, NewAsk, NewVisitor};
-pub use ask::{RejoinCount, Target};
-pub use change::{Change, Downlink, Joined, Lending, OwnContext, PassiveUplink};
-pub use change::{Queued, Rejoined, RoamingKind, Stopped, Uplink};
+pub use ask::{
+    AskKind, AskOutcome, Effect, HeldCount, HeldSession, NewAsk, NewVisitor, RejoinCount, Target,
+};
+pub use change::{
+    Change, Downlink, Joined, Lending, OwnContext, PassiveUplink, Queued, Rejoined, RoamingKind,
+    Stopped, Uplink,
+};
 pub use entry::{Entry, Event, Request};
 pub use used_seed::{SeedPlace, UsedSeed};

@@ -2,8 +2,14 @@
 #![tactic(auto)]
 
 mod ask;
+mod ask_spelling;
 mod change;
+mod change_spelling;
 mod entry;
+mod name_spelling;
+mod out;
+mod rest;
+mod unread;
 mod used_seed;
 
 pub use ask::{

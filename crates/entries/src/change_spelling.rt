@@ -64,7 +64,7 @@ fn put_own_context_option(out: &mut Vec<u8>, value: &Option<OwnContext>) -> Resu
 }
 
 #[tactic(auto, unfolding(wire_ids::specs::Forms::optional, wire_ids::specs::Forms::sum))]
-fn used_seed_option_at(rest: &mut Rest) -> Result<Option<UsedSeed>, Unread>
+pub(crate) fn used_seed_option_at(rest: &mut Rest) -> Result<Option<UsedSeed>, Unread>
     ensures { Reads result rest.new ((optional used_seed).read rest.old) }
 {
     match rest.u8()? {
@@ -75,7 +75,10 @@ fn used_seed_option_at(rest: &mut Rest) -> Result<Option<UsedSeed>, Unread>
 }
 
 #[tactic(auto, unfolding(wire_ids::specs::Forms::optional, wire_ids::specs::Forms::sum, wire_ids::specs::Forms::u8), using(std::proofs::Common::append_assoc))]
-fn put_used_seed_option(out: &mut Vec<u8>, value: &Option<UsedSeed>) -> Result<(), Memory>
+pub(crate) fn put_used_seed_option(
+    out: &mut Vec<u8>,
+    value: &Option<UsedSeed>,
+) -> Result<(), Memory>
     ensures spelled { Writes result out.old.items out.new.items ((optional used_seed).spell value.now) }
     ensures fits { OnOk result ((optional used_seed).Fits value.now) }
 {

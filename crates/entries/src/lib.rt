@@ -6,6 +6,7 @@ mod ask_spelling;
 mod change;
 mod change_spelling;
 mod entry;
+mod entry_spelling;
 mod name_spelling;
 mod out;
 mod rest;

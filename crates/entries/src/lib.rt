@@ -5,6 +5,7 @@ mod ask;
 mod ask_spelling;
 mod change;
 mod change_spelling;
+mod codec;
 mod entry;
 mod entry_spelling;
 mod name_spelling;
@@ -20,5 +21,6 @@ pub use change::{
     Change, Downlink, Joined, Lending, OwnContext, PassiveUplink, Queued, Rejoined, RoamingKind,
     Stopped, Uplink,
 };
+pub use codec::{decode, encode, entries_have_one_spelling};
 pub use entry::{Entry, Event, Request};
 pub use used_seed::{SeedPlace, UsedSeed};

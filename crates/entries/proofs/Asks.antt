@@ -25,27 +25,21 @@ form-ask_kind = form-sum ask_kind_tag (λ _. []) ask_kind_at (λ _. Unit {0}) (�
     by_test (eqb first 3) _ _ _ (taken_bare ask_kind_tag (λ _. []) (λ _. Unit {0}) ask_kinds.XmitData 3 refl refl tt first bytes x rest is) (λ _ none. absurd cc)))))
 
 pub form-rejoin_count : IsForm rejoin_count
-unfolding rejoin_count
 form-rejoin_count = form-named _ _ _ (λ p. refl) (λ x. refl) (form-both _ _ form-u16 form-flag)
 
 pub form-target : IsForm target
-unfolding target
 form-target = form-named _ _ _ (λ p. refl) (λ x. refl) (form-both _ _ form-ask_kind (form-both _ _ form-peer (form-both _ _ (form-optional _ form-eui) (form-both _ _ (form-optional _ form-dev_addr) (form-both _ _ (form-optional _ form-radio) (form-both _ _ (form-optional _ form-rejoin_count) (form-both _ _ form-short form-u8)))))))
 
 pub form-new_ask : IsForm new_ask
-unfolding new_ask
 form-new_ask = form-named _ _ _ (λ p. refl) (λ x. refl) (form-both _ _ (form-optional _ form-u64) (form-both _ _ form-sender (form-both _ _ form-short (form-both _ _ form-target form-moment))))
 
 pub form-new_visitor : IsForm new_visitor
-unfolding new_visitor
 form-new_visitor = form-named _ _ _ (λ p. refl) (λ x. refl) (form-both _ _ form-eui (form-both _ _ form-u24 (form-both _ _ form-dev_addr (form-both _ _ form-radio (form-both _ _ form-session_keys form-moment)))))
 
 pub form-held_session : IsForm held_session
-unfolding held_session
 form-held_session = form-named _ _ _ (λ p. refl) (λ x. refl) (form-both _ _ form-u24 (form-both _ _ form-dev_addr (form-both _ _ form-eui (form-both _ _ (form-exactly 16) (form-both _ _ form-u32 form-moment)))))
 
 pub form-held_count : IsForm held_count
-unfolding held_count
 form-held_count = form-named _ _ _ (λ p. refl) (λ x. refl) (form-both _ _ form-u24 (form-both _ _ form-dev_addr form-u32))
 
 effect_again : (x : Effect) (rest : List ℕ) → FitsEffect x → effect_at (effect_tag x) (effect_fields x ++ rest) ≡ Some (x, rest)
@@ -63,5 +57,4 @@ form-effect = form-sum effect_tag effect_fields effect_at FitsEffect effect_agai
     by_test (eqb first 3) _ _ _ (taken_arm effect_tag effect_fields FitsEffect held_count effects.Counter 3 (λ _. refl) (λ _. refl) (λ _ k. k) form-held_count first bytes x rest is) (λ _ none. absurd cc)))))
 
 pub form-ask_outcome : IsForm ask_outcome
-unfolding ask_outcome
 form-ask_outcome = form-named _ _ _ (λ p. refl) (λ x. refl) (form-both _ _ form-u64 (form-both _ _ form-flag (form-both _ _ form-short form-effect)))

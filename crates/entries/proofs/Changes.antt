@@ -29,15 +29,12 @@ form-used_seed = form-sum used_seed_tag used_seed_fields used_seed_at FitsUsedSe
     by_test (eqb first 2) _ _ _ (taken_arm used_seed_tag used_seed_fields FitsUsedSeed (below 4) used_seeds.Rejoin2 2 (λ _. refl) (λ _. refl) (λ _ k. k) (form-below 4) first bytes x rest is) (λ _ none. absurd cc))))
 
 pub form-own_context : IsForm own_context
-unfolding own_context
 form-own_context = form-named _ _ _ (λ p. refl) (λ x. refl) (form-both _ _ form-dev_addr form-radio)
 
 pub form-joined : IsForm joined
-unfolding joined
 form-joined = form-named _ _ _ (λ p. refl) (λ x. refl) (form-both _ _ form-u32 (form-both _ _ form-u16 (form-both _ _ form-u24 (form-optional _ form-own_context))))
 
 pub form-rejoined : IsForm rejoined
-unfolding rejoined
 form-rejoined = form-named _ _ _ (λ p. refl) (λ x. refl) (form-both _ _ form-u32 (form-both _ _ form-used_seed (form-both _ _ form-u16 (form-both _ _ form-u24 (form-optional _ form-own_context)))))
 
 downlink_again : (x : Downlink) (rest : List ℕ) → downlink_at (downlink_tag x) rest ≡ Some (x, rest)
@@ -53,15 +50,12 @@ form-downlink = form-sum downlink_tag (λ _. []) downlink_at (λ _. Unit {0}) (�
     by_test (eqb first 2) _ _ _ (taken_bare downlink_tag (λ _. []) (λ _. Unit {0}) downlinks.FirstItem 2 refl refl tt first bytes x rest is) (λ _ none. absurd cc))))
 
 pub form-uplink : IsForm uplink
-unfolding uplink
 form-uplink = form-named _ _ _ (λ p. refl) (λ x. refl) (form-both _ _ form-eui (form-both _ _ form-flag (form-both _ _ form-u32 (form-both _ _ form-short (form-both _ _ form-u8 form-downlink)))))
 
 pub form-passive_uplink : IsForm passive_uplink
-unfolding passive_uplink
 form-passive_uplink = form-named _ _ _ (λ p. refl) (λ x. refl) (form-both _ _ form-uplink (form-both _ _ form-u24 form-moment))
 
 pub form-queued : IsForm queued
-unfolding queued
 form-queued = form-named _ _ _ (λ p. refl) (λ x. refl) (form-both _ _ form-u32 (form-both _ _ form-u32 (form-both _ _ form-u8 (form-both _ _ form-flag form-short))))
 
 roaming_kind_again : (x : RoamingKind) (rest : List ℕ) → roaming_kind_at (roaming_kind_tag x) rest ≡ Some (x, rest)
@@ -77,5 +71,4 @@ form-roaming_kind = form-sum roaming_kind_tag (λ _. []) roaming_kind_at (λ _. 
     by_test (eqb first 2) _ _ _ (taken_bare roaming_kind_tag (λ _. []) (λ _. Unit {0}) roaming_kinds.Visitor 2 refl refl tt first bytes x rest is) (λ _ none. absurd cc))))
 
 pub form-stopped : IsForm stopped
-unfolding stopped
 form-stopped = form-named _ _ _ (λ p. refl) (λ x. refl) (form-both _ _ form-eui form-roaming_kind)

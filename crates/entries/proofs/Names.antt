@@ -9,23 +9,18 @@ use Rattle.wire_ids.proofs.Forms.{by_test, taken_arm, arm_again, form-sum, form-
 use Rattle.entries.specs.Names.{eui, dev_addr, moment, radio, session_keys, sender, sender_tag, sender_fields, sender_at, FitsSender, peer, peer_tag, peer_fields, peer_at, FitsPeerId}
 
 pub form-eui : IsForm eui
-unfolding eui
 form-eui = form-named _ _ _ (λ n. refl) (λ x. refl) form-u64
 
 pub form-dev_addr : IsForm dev_addr
-unfolding dev_addr
 form-dev_addr = form-named _ _ _ (λ n. refl) (λ x. refl) form-u32
 
 pub form-moment : IsForm moment
-unfolding moment
 form-moment = form-named _ _ _ (λ n. refl) (λ x. refl) form-u64
 
 pub form-radio : IsForm radio
-unfolding radio
 form-radio = form-named _ _ _ (λ p. refl) (λ x. refl) (form-both _ _ form-u8 (form-both _ _ form-u8 (form-optional _ (form-exactly 16))))
 
 pub form-session_keys : IsForm session_keys
-unfolding session_keys
 form-session_keys = form-named _ _ _ (λ p. refl) (λ x. refl) (form-both _ _ (form-exactly 16) (form-both _ _ (form-exactly 16) (form-exactly 16)))
 
 sender_again : (x : Sender) (rest : List ℕ) → FitsSender x → sender_at (sender_tag x) (sender_fields x ++ rest) ≡ Some (x, rest)

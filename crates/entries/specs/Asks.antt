@@ -27,32 +27,32 @@ ask_kind_at tag bytes =
 unfoldable pub ask_kind : Form AskKind
 ask_kind = sum ask_kind_tag (λ _. []) ask_kind_at (λ _. Unit {0})
 
-unfoldable pub rejoin_count : Form RejoinCount
+abbrev pub rejoin_count : Form RejoinCount
 rejoin_count = named (both u16 flag)
     (λ p. record { count = p.0; pending = p.1 })
     (λ x. (x.count, x.pending))
 
-unfoldable pub target : Form Target
+abbrev pub target : Form Target
 target = named (both ask_kind (both peer (both (optional eui) (both (optional dev_addr) (both (optional radio) (both (optional rejoin_count) (both short u8)))))))
     (λ p. record { kind = p.0; peer = p.1.0; dev_eui = p.1.1.0; dev_addr = p.1.1.1.0; radio = p.1.1.1.1.0; rejoin = p.1.1.1.1.1.0; frame = p.1.1.1.1.1.1.0; rate = p.1.1.1.1.1.1.1 })
     (λ x. (x.kind, (x.peer, (x.dev_eui, (x.dev_addr, (x.radio, (x.rejoin, (x.frame, x.rate))))))))
 
-unfoldable pub new_ask : Form NewAsk
+abbrev pub new_ask : Form NewAsk
 new_ask = named (both (optional u64) (both sender (both short (both target moment))))
     (λ p. record { closes = p.0; sender = p.1.0; body = p.1.1.0; target = p.1.1.1.0; ends = p.1.1.1.1 })
     (λ x. (x.closes, (x.sender, (x.body, (x.target, x.ends)))))
 
-unfoldable pub new_visitor : Form NewVisitor
+abbrev pub new_visitor : Form NewVisitor
 new_visitor = named (both eui (both u24 (both dev_addr (both radio (both session_keys moment)))))
     (λ p. record { dev_eui = p.0; home = p.1.0; dev_addr = p.1.1.0; radio = p.1.1.1.0; keys = p.1.1.1.1.0; until = p.1.1.1.1.1 })
     (λ x. (x.dev_eui, (x.home, (x.dev_addr, (x.radio, (x.keys, x.until))))))
 
-unfoldable pub held_session : Form HeldSession
+abbrev pub held_session : Form HeldSession
 held_session = named (both u24 (both dev_addr (both eui (both (exactly 16) (both u32 moment)))))
     (λ p. record { net = p.0; dev_addr = p.1.0; dev_eui = p.1.1.0; f = p.1.1.1.0; count = p.1.1.1.1.0; until = p.1.1.1.1.1 })
     (λ x. (x.net, (x.dev_addr, (x.dev_eui, (x.f, (x.count, x.until))))))
 
-unfoldable pub held_count : Form HeldCount
+abbrev pub held_count : Form HeldCount
 held_count = named (both u24 (both dev_addr u32))
     (λ p. record { net = p.0; dev_addr = p.1.0; count = p.1.1 })
     (λ x. (x.net, (x.dev_addr, x.count)))
@@ -85,7 +85,7 @@ FitsEffect (effects.Counter count) = held_count.Fits count
 unfoldable pub effect : Form Effect
 effect = sum effect_tag effect_fields effect_at FitsEffect
 
-unfoldable pub ask_outcome : Form AskOutcome
+abbrev pub ask_outcome : Form AskOutcome
 ask_outcome = named (both u64 (both flag (both short effect)))
     (λ p. record { ask = p.0; kept = p.1.0; answer = p.1.1.0; effect = p.1.1.1 })
     (λ x. (x.ask, (x.kept, (x.answer, x.effect))))

@@ -41,17 +41,17 @@ FitsUsedSeed (used_seeds.Rejoin2 place) = (below 4).Fits place
 unfoldable pub used_seed : Form UsedSeed
 used_seed = sum used_seed_tag used_seed_fields used_seed_at FitsUsedSeed
 
-unfoldable pub own_context : Form OwnContext
+abbrev pub own_context : Form OwnContext
 own_context = named (both dev_addr radio)
     (λ p. record { dev_addr = p.0; radio = p.1 })
     (λ x. (x.dev_addr, x.radio))
 
-unfoldable pub joined : Form Joined
+abbrev pub joined : Form Joined
 joined = named (both u32 (both u16 (both u24 (optional own_context))))
     (λ p. record { device = p.0; counter = p.1.0; join_nonce = p.1.1.0; own = p.1.1.1 })
     (λ x. (x.device, (x.counter, (x.join_nonce, x.own))))
 
-unfoldable pub rejoined : Form Rejoined
+abbrev pub rejoined : Form Rejoined
 rejoined = named (both u32 (both used_seed (both u16 (both u24 (optional own_context)))))
     (λ p. record { device = p.0; used = p.1.0; counter = p.1.1.0; join_nonce = p.1.1.1.0; own = p.1.1.1.1 })
     (λ x. (x.device, (x.used, (x.counter, (x.join_nonce, x.own)))))
@@ -68,17 +68,17 @@ downlink_at tag bytes =
 unfoldable pub downlink : Form Downlink
 downlink = sum downlink_tag (λ _. []) downlink_at (λ _. Unit {0})
 
-unfoldable pub uplink : Form Uplink
+abbrev pub uplink : Form Uplink
 uplink = named (both eui (both flag (both u32 (both short (both u8 downlink)))))
     (λ p. record { dev_eui = p.0; pending = p.1.0; count = p.1.1.0; frame = p.1.1.1.0; channel = p.1.1.1.1.0; down = p.1.1.1.1.1 })
     (λ x. (x.dev_eui, (x.pending, (x.count, (x.frame, (x.channel, x.down))))))
 
-unfoldable pub passive_uplink : Form PassiveUplink
+abbrev pub passive_uplink : Form PassiveUplink
 passive_uplink = named (both uplink (both u24 moment))
     (λ p. record { up = p.0; net = p.1.0; until = p.1.1 })
     (λ x. (x.up, (x.net, x.until)))
 
-unfoldable pub queued : Form Queued
+abbrev pub queued : Form Queued
 queued = named (both u32 (both u32 (both u8 (both flag short))))
     (λ p. record { device = p.0; number = p.1.0; port = p.1.1.0; confirmed = p.1.1.1.0; payload = p.1.1.1.1 })
     (λ x. (x.device, (x.number, (x.port, (x.confirmed, x.payload)))))
@@ -95,7 +95,7 @@ roaming_kind_at tag bytes =
 unfoldable pub roaming_kind : Form RoamingKind
 roaming_kind = sum roaming_kind_tag (λ _. []) roaming_kind_at (λ _. Unit {0})
 
-unfoldable pub stopped : Form Stopped
+abbrev pub stopped : Form Stopped
 stopped = named (both eui roaming_kind)
     (λ p. record { dev_eui = p.0; what = p.1 })
     (λ x. (x.dev_eui, x.what))

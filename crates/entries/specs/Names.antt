@@ -11,23 +11,23 @@ use Rattle.wire_ids.specs.declared.party.PeerId.{PeerId}
 use Rattle.wire_ids.specs.declared.party.PeerId.TheVariants as peers
 use Rattle.wire_ids.specs.Forms.{Read, Form, u8, u24, u32, u64, arm, sum, optional, exactly, both, named, u24}
 
-unfoldable pub eui : Form Eui
+abbrev pub eui : Form Eui
 eui = named u64 (λ n. record { 0 = n }) (λ x. x.0)
 
-unfoldable pub dev_addr : Form DevAddr
+abbrev pub dev_addr : Form DevAddr
 dev_addr = named u32 (λ n. record { 0 = n }) (λ x. x.0)
 
 -- seconds
-unfoldable pub moment : Form Moment
+abbrev pub moment : Form Moment
 moment = named u64 (λ n. record { 0 = n }) (λ x. x.0)
 
-unfoldable pub radio : Form Radio
+abbrev pub radio : Form Radio
 radio = named (both u8 (both u8 (optional (exactly 16))))
     (λ p. record { dl = p.0; rx_delay = p.1.0; cf = p.1.1 })
     (λ x. (x.dl, (x.rx_delay, x.cf)))
 
 -- FNwkSIntKey, SNwkSIntKey, NwkSEncKey
-unfoldable pub session_keys : Form SessionKeys
+abbrev pub session_keys : Form SessionKeys
 session_keys = named (both (exactly 16) (both (exactly 16) (exactly 16)))
     (λ p. record { f = p.0; s = p.1.0; e = p.1.1 })
     (λ x. (x.f, (x.s, x.e)))

@@ -1,3 +1,5 @@
+#![tactic(auto, unfolding(wire_ids::specs::Forms::named, wire_ids::specs::Forms::both))]
+
 ghost use Rattle.std.specs.Prelude.{◌≡◌, OnOk};
 ghost use Rattle.wire_ids.specs.Forms.{optional, u64};
 ghost use Rattle.entries.specs.Names.{eui, dev_addr, radio};
@@ -9,7 +11,9 @@ use crate::name_spelling::{
     dev_addr_at, eui_at, moment_at, peer_at, put_dev_addr, put_eui, put_moment, put_peer,
     put_radio, put_sender, put_session_keys, radio_at, sender_at, session_keys_at,
 };
-use crate::out::{put_flag, put_net, put_short, put_sixteen, put_u8, put_u16, put_u32, put_u64};
+use crate::out::{
+    put, put_flag, put_net, put_short, put_sixteen, put_u8, put_u16, put_u32, put_u64,
+};
 use crate::rest::Rest;
 use crate::unread::Unread;
 use crate::{
@@ -29,15 +33,15 @@ fn eui_option_at(rest: &mut Rest) -> Result<Option<Eui>, Unread>
     }
 }
 
-#[tactic(auto, unfolding(wire_ids::specs::Forms::optional, wire_ids::specs::Forms::sum, wire_ids::specs::Forms::u8), using(std::proofs::Common::append_assoc))]
+#[tactic(auto, unfolding(wire_ids::specs::Forms::optional, wire_ids::specs::Forms::sum))]
 fn put_eui_option(out: &mut Vec<u8>, value: &Option<Eui>) -> Result<(), Memory>
     ensures spelled { Writes result out.old.items out.new.items ((optional eui).spell value.now) }
     ensures fits { OnOk result ((optional eui).Fits value.now) }
 {
     match value {
-        None => put_u8(out, 0),
+        None => put(out, &[0]),
         Some(value) => {
-            put_u8(out, 1)?;
+            put(out, &[1])?;
             put_eui(out, value)
         }
     }
@@ -54,15 +58,15 @@ fn dev_addr_option_at(rest: &mut Rest) -> Result<Option<DevAddr>, Unread>
     }
 }
 
-#[tactic(auto, unfolding(wire_ids::specs::Forms::optional, wire_ids::specs::Forms::sum, wire_ids::specs::Forms::u8), using(std::proofs::Common::append_assoc))]
+#[tactic(auto, unfolding(wire_ids::specs::Forms::optional, wire_ids::specs::Forms::sum))]
 fn put_dev_addr_option(out: &mut Vec<u8>, value: &Option<DevAddr>) -> Result<(), Memory>
     ensures spelled { Writes result out.old.items out.new.items ((optional dev_addr).spell value.now) }
     ensures fits { OnOk result ((optional dev_addr).Fits value.now) }
 {
     match value {
-        None => put_u8(out, 0),
+        None => put(out, &[0]),
         Some(value) => {
-            put_u8(out, 1)?;
+            put(out, &[1])?;
             put_dev_addr(out, value)
         }
     }
@@ -79,15 +83,15 @@ fn radio_option_at(rest: &mut Rest) -> Result<Option<Radio>, Unread>
     }
 }
 
-#[tactic(auto, unfolding(wire_ids::specs::Forms::optional, wire_ids::specs::Forms::sum, wire_ids::specs::Forms::u8), using(std::proofs::Common::append_assoc))]
+#[tactic(auto, unfolding(wire_ids::specs::Forms::optional, wire_ids::specs::Forms::sum))]
 fn put_radio_option(out: &mut Vec<u8>, value: &Option<Radio>) -> Result<(), Memory>
     ensures spelled { Writes result out.old.items out.new.items ((optional radio).spell value.now) }
     ensures fits { OnOk result ((optional radio).Fits value.now) }
 {
     match value {
-        None => put_u8(out, 0),
+        None => put(out, &[0]),
         Some(value) => {
-            put_u8(out, 1)?;
+            put(out, &[1])?;
             put_radio(out, value)
         }
     }
@@ -104,15 +108,15 @@ fn rejoin_count_option_at(rest: &mut Rest) -> Result<Option<RejoinCount>, Unread
     }
 }
 
-#[tactic(auto, unfolding(wire_ids::specs::Forms::optional, wire_ids::specs::Forms::sum, wire_ids::specs::Forms::u8), using(std::proofs::Common::append_assoc))]
+#[tactic(auto, unfolding(wire_ids::specs::Forms::optional, wire_ids::specs::Forms::sum))]
 fn put_rejoin_count_option(out: &mut Vec<u8>, value: &Option<RejoinCount>) -> Result<(), Memory>
     ensures spelled { Writes result out.old.items out.new.items ((optional rejoin_count).spell value.now) }
     ensures fits { OnOk result ((optional rejoin_count).Fits value.now) }
 {
     match value {
-        None => put_u8(out, 0),
+        None => put(out, &[0]),
         Some(value) => {
-            put_u8(out, 1)?;
+            put(out, &[1])?;
             put_rejoin_count(out, value)
         }
     }
@@ -129,15 +133,15 @@ fn number_option_at(rest: &mut Rest) -> Result<Option<u64>, Unread>
     }
 }
 
-#[tactic(auto, unfolding(wire_ids::specs::Forms::optional, wire_ids::specs::Forms::sum, wire_ids::specs::Forms::u8), using(std::proofs::Common::append_assoc))]
+#[tactic(auto, unfolding(wire_ids::specs::Forms::optional, wire_ids::specs::Forms::sum))]
 fn put_number_option(out: &mut Vec<u8>, value: &Option<u64>) -> Result<(), Memory>
     ensures spelled { Writes result out.old.items out.new.items ((optional u64).spell value.now) }
     ensures fits { OnOk result ((optional u64).Fits value.now) }
 {
     match value {
-        None => put_u8(out, 0),
+        None => put(out, &[0]),
         Some(value) => {
-            put_u8(out, 1)?;
+            put(out, &[1])?;
             put_u64(out, *value)
         }
     }
@@ -156,23 +160,20 @@ pub(crate) fn ask_kind_at(rest: &mut Rest) -> Result<AskKind, Unread>
     }
 }
 
-#[tactic(auto, unfolding(crate::specs::Asks::ask_kind, wire_ids::specs::Forms::sum, wire_ids::specs::Forms::u8))]
+#[tactic(auto, unfolding(crate::specs::Asks::ask_kind, wire_ids::specs::Forms::sum))]
 pub(crate) fn put_ask_kind(out: &mut Vec<u8>, value: &AskKind) -> Result<(), Memory>
     ensures spelled { Writes result out.old.items out.new.items (ask_kind.spell value.now) }
     ensures fits { OnOk result (ask_kind.Fits value.now) }
 {
-    put_u8(
-        out,
-        match value {
-            AskKind::HomeNS => 0,
-            AskKind::HRStart => 1,
-            AskKind::PRStart => 2,
-            AskKind::XmitData => 3,
-        },
-    )
+    let byte = match value {
+        AskKind::HomeNS => 0,
+        AskKind::HRStart => 1,
+        AskKind::PRStart => 2,
+        AskKind::XmitData => 3,
+    };
+    put(out, &[byte])
 }
 
-#[tactic(auto, unfolding(crate::specs::Asks::rejoin_count, wire_ids::specs::Forms::named, wire_ids::specs::Forms::both))]
 pub(crate) fn rejoin_count_at(rest: &mut Rest) -> Result<RejoinCount, Unread>
     ensures { Reads result rest.new (rejoin_count.read rest.old) }
 {
@@ -181,7 +182,6 @@ pub(crate) fn rejoin_count_at(rest: &mut Rest) -> Result<RejoinCount, Unread>
     Ok(RejoinCount { count, pending })
 }
 
-#[tactic(auto, unfolding(crate::specs::Asks::rejoin_count, wire_ids::specs::Forms::named, wire_ids::specs::Forms::both), using(std::proofs::Common::append_assoc))]
 pub(crate) fn put_rejoin_count(out: &mut Vec<u8>, value: &RejoinCount) -> Result<(), Memory>
     ensures spelled { Writes result out.old.items out.new.items (rejoin_count.spell value.now) }
     ensures fits { OnOk result (rejoin_count.Fits value.now) }
@@ -190,7 +190,6 @@ pub(crate) fn put_rejoin_count(out: &mut Vec<u8>, value: &RejoinCount) -> Result
     put_flag(out, value.pending)
 }
 
-#[tactic(auto, unfolding(crate::specs::Asks::target, wire_ids::specs::Forms::named, wire_ids::specs::Forms::both))]
 pub(crate) fn target_at(alloc: Global, rest: &mut Rest) -> Result<Target, Unread>
     ensures { Reads result rest.new (target.read rest.old) }
 {
@@ -214,7 +213,6 @@ pub(crate) fn target_at(alloc: Global, rest: &mut Rest) -> Result<Target, Unread
     })
 }
 
-#[tactic(auto, unfolding(crate::specs::Asks::target, wire_ids::specs::Forms::named, wire_ids::specs::Forms::both), using(std::proofs::Common::append_assoc))]
 pub(crate) fn put_target(out: &mut Vec<u8>, value: &Target) -> Result<(), Memory>
     ensures spelled { Writes result out.old.items out.new.items (target.spell value.now) }
     ensures fits { OnOk result (target.Fits value.now) }
@@ -229,7 +227,6 @@ pub(crate) fn put_target(out: &mut Vec<u8>, value: &Target) -> Result<(), Memory
     put_u8(out, value.rate)
 }
 
-#[tactic(auto, unfolding(crate::specs::Asks::new_ask, wire_ids::specs::Forms::named, wire_ids::specs::Forms::both))]
 pub(crate) fn new_ask_at(alloc: Global, rest: &mut Rest) -> Result<NewAsk, Unread>
     ensures { Reads result rest.new (new_ask.read rest.old) }
 {
@@ -247,7 +244,6 @@ pub(crate) fn new_ask_at(alloc: Global, rest: &mut Rest) -> Result<NewAsk, Unrea
     })
 }
 
-#[tactic(auto, unfolding(crate::specs::Asks::new_ask, wire_ids::specs::Forms::named, wire_ids::specs::Forms::both), using(std::proofs::Common::append_assoc))]
 pub(crate) fn put_new_ask(out: &mut Vec<u8>, value: &NewAsk) -> Result<(), Memory>
     ensures spelled { Writes result out.old.items out.new.items (new_ask.spell value.now) }
     ensures fits { OnOk result (new_ask.Fits value.now) }
@@ -259,7 +255,6 @@ pub(crate) fn put_new_ask(out: &mut Vec<u8>, value: &NewAsk) -> Result<(), Memor
     put_moment(out, &value.ends)
 }
 
-#[tactic(auto, unfolding(crate::specs::Asks::new_visitor, wire_ids::specs::Forms::named, wire_ids::specs::Forms::both))]
 pub(crate) fn new_visitor_at(rest: &mut Rest) -> Result<NewVisitor, Unread>
     ensures { Reads result rest.new (new_visitor.read rest.old) }
 {
@@ -279,7 +274,6 @@ pub(crate) fn new_visitor_at(rest: &mut Rest) -> Result<NewVisitor, Unread>
     })
 }
 
-#[tactic(auto, unfolding(crate::specs::Asks::new_visitor, wire_ids::specs::Forms::named, wire_ids::specs::Forms::both), using(std::proofs::Common::append_assoc))]
 pub(crate) fn put_new_visitor(out: &mut Vec<u8>, value: &NewVisitor) -> Result<(), Memory>
     ensures spelled { Writes result out.old.items out.new.items (new_visitor.spell value.now) }
     ensures fits { OnOk result (new_visitor.Fits value.now) }
@@ -292,7 +286,6 @@ pub(crate) fn put_new_visitor(out: &mut Vec<u8>, value: &NewVisitor) -> Result<(
     put_moment(out, &value.until)
 }
 
-#[tactic(auto, unfolding(crate::specs::Asks::held_session, wire_ids::specs::Forms::named, wire_ids::specs::Forms::both))]
 pub(crate) fn held_session_at(rest: &mut Rest) -> Result<HeldSession, Unread>
     ensures { Reads result rest.new (held_session.read rest.old) }
 {
@@ -312,7 +305,6 @@ pub(crate) fn held_session_at(rest: &mut Rest) -> Result<HeldSession, Unread>
     })
 }
 
-#[tactic(auto, unfolding(crate::specs::Asks::held_session, wire_ids::specs::Forms::named, wire_ids::specs::Forms::both), using(std::proofs::Common::append_assoc))]
 pub(crate) fn put_held_session(out: &mut Vec<u8>, value: &HeldSession) -> Result<(), Memory>
     ensures spelled { Writes result out.old.items out.new.items (held_session.spell value.now) }
     ensures fits { OnOk result (held_session.Fits value.now) }
@@ -325,7 +317,6 @@ pub(crate) fn put_held_session(out: &mut Vec<u8>, value: &HeldSession) -> Result
     put_moment(out, &value.until)
 }
 
-#[tactic(auto, unfolding(crate::specs::Asks::held_count, wire_ids::specs::Forms::named, wire_ids::specs::Forms::both))]
 pub(crate) fn held_count_at(rest: &mut Rest) -> Result<HeldCount, Unread>
     ensures { Reads result rest.new (held_count.read rest.old) }
 {
@@ -339,7 +330,6 @@ pub(crate) fn held_count_at(rest: &mut Rest) -> Result<HeldCount, Unread>
     })
 }
 
-#[tactic(auto, unfolding(crate::specs::Asks::held_count, wire_ids::specs::Forms::named, wire_ids::specs::Forms::both), using(std::proofs::Common::append_assoc))]
 pub(crate) fn put_held_count(out: &mut Vec<u8>, value: &HeldCount) -> Result<(), Memory>
     ensures spelled { Writes result out.old.items out.new.items (held_count.spell value.now) }
     ensures fits { OnOk result (held_count.Fits value.now) }
@@ -362,29 +352,28 @@ pub(crate) fn effect_at(rest: &mut Rest) -> Result<Effect, Unread>
     }
 }
 
-#[tactic(auto, unfolding(crate::specs::Asks::effect, wire_ids::specs::Forms::sum, wire_ids::specs::Forms::u8), using(std::proofs::Common::append_assoc))]
+#[tactic(auto, unfolding(crate::specs::Asks::effect, wire_ids::specs::Forms::sum))]
 pub(crate) fn put_effect(out: &mut Vec<u8>, value: &Effect) -> Result<(), Memory>
     ensures spelled { Writes result out.old.items out.new.items (effect.spell value.now) }
     ensures fits { OnOk result (effect.Fits value.now) }
 {
     match value {
-        Effect::Nothing => put_u8(out, 0),
+        Effect::Nothing => put(out, &[0]),
         Effect::Visitor(visitor) => {
-            put_u8(out, 1)?;
+            put(out, &[1])?;
             put_new_visitor(out, visitor)
         }
         Effect::Held(session) => {
-            put_u8(out, 2)?;
+            put(out, &[2])?;
             put_held_session(out, session)
         }
         Effect::Counter(count) => {
-            put_u8(out, 3)?;
+            put(out, &[3])?;
             put_held_count(out, count)
         }
     }
 }
 
-#[tactic(auto, unfolding(crate::specs::Asks::ask_outcome, wire_ids::specs::Forms::named, wire_ids::specs::Forms::both))]
 pub(crate) fn ask_outcome_at(alloc: Global, rest: &mut Rest) -> Result<AskOutcome, Unread>
     ensures { Reads result rest.new (ask_outcome.read rest.old) }
 {
@@ -400,7 +389,6 @@ pub(crate) fn ask_outcome_at(alloc: Global, rest: &mut Rest) -> Result<AskOutcom
     })
 }
 
-#[tactic(auto, unfolding(crate::specs::Asks::ask_outcome, wire_ids::specs::Forms::named, wire_ids::specs::Forms::both), using(std::proofs::Common::append_assoc))]
 pub(crate) fn put_ask_outcome(out: &mut Vec<u8>, value: &AskOutcome) -> Result<(), Memory>
     ensures spelled { Writes result out.old.items out.new.items (ask_outcome.spell value.now) }
     ensures fits { OnOk result (ask_outcome.Fits value.now) }

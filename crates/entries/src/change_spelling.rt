@@ -1,3 +1,5 @@
+#![tactic(auto, unfolding(wire_ids::specs::Forms::named, wire_ids::specs::Forms::both))]
+
 ghost use Rattle.std.specs.Prelude.{◌≡◌, OnOk};
 ghost use Rattle.wire_ids.specs.Forms.{below, mark, optional};
 ghost use Rattle.entries.specs.Changes.{used_seed, own_context, joined, rejoined, downlink};
@@ -27,6 +29,14 @@ fn seed_place_at(rest: &mut Rest) -> Result<SeedPlace, Unread>
     }
 }
 
+#[tactic(auto, unfolding(wire_ids::specs::Forms::below))]
+fn put_seed_place(out: &mut Vec<u8>, value: SeedPlace) -> Result<(), Memory>
+    ensures spelled { Writes result out.old.items out.new.items ((below 4).spell value) }
+    ensures fits { (below 4).Fits value }
+{
+    put(out, &[value.get()])
+}
+
 #[tactic(auto, unfolding(wire_ids::specs::Forms::mark))]
 fn no_place_at(rest: &mut Rest) -> Result<(), Unread>
     ensures { Reads result rest.new ((mark 255).read rest.old) }
@@ -36,6 +46,14 @@ fn no_place_at(rest: &mut Rest) -> Result<(), Unread>
     } else {
         Err(Unread::NoEntry)
     }
+}
+
+#[tactic(auto, unfolding(wire_ids::specs::Forms::mark))]
+fn put_no_place(out: &mut Vec<u8>) -> Result<(), Memory>
+    ensures spelled { Writes result out.old.items out.new.items ((mark 255).spell tt) }
+    ensures fits { (mark 255).Fits tt }
+{
+    put(out, &[255])
 }
 
 #[tactic(auto, unfolding(wire_ids::specs::Forms::optional, wire_ids::specs::Forms::sum))]
@@ -49,15 +67,15 @@ fn own_context_option_at(rest: &mut Rest) -> Result<Option<OwnContext>, Unread>
     }
 }
 
-#[tactic(auto, unfolding(wire_ids::specs::Forms::optional, wire_ids::specs::Forms::sum, wire_ids::specs::Forms::u8), using(std::proofs::Common::append_assoc))]
+#[tactic(auto, unfolding(wire_ids::specs::Forms::optional, wire_ids::specs::Forms::sum))]
 fn put_own_context_option(out: &mut Vec<u8>, value: &Option<OwnContext>) -> Result<(), Memory>
     ensures spelled { Writes result out.old.items out.new.items ((optional own_context).spell value.now) }
     ensures fits { OnOk result ((optional own_context).Fits value.now) }
 {
     match value {
-        None => put_u8(out, 0),
+        None => put(out, &[0]),
         Some(value) => {
-            put_u8(out, 1)?;
+            put(out, &[1])?;
             put_own_context(out, value)
         }
     }
@@ -74,7 +92,7 @@ pub(crate) fn used_seed_option_at(rest: &mut Rest) -> Result<Option<UsedSeed>, U
     }
 }
 
-#[tactic(auto, unfolding(wire_ids::specs::Forms::optional, wire_ids::specs::Forms::sum, wire_ids::specs::Forms::u8), using(std::proofs::Common::append_assoc))]
+#[tactic(auto, unfolding(wire_ids::specs::Forms::optional, wire_ids::specs::Forms::sum))]
 pub(crate) fn put_used_seed_option(
     out: &mut Vec<u8>,
     value: &Option<UsedSeed>,
@@ -83,9 +101,9 @@ pub(crate) fn put_used_seed_option(
     ensures fits { OnOk result ((optional used_seed).Fits value.now) }
 {
     match value {
-        None => put_u8(out, 0),
+        None => put(out, &[0]),
         Some(value) => {
-            put_u8(out, 1)?;
+            put(out, &[1])?;
             put_used_seed(out, value)
         }
     }
@@ -106,19 +124,27 @@ pub(crate) fn used_seed_at(rest: &mut Rest) -> Result<UsedSeed, Unread>
     }
 }
 
-#[tactic(auto, unfolding(crate::specs::Changes::used_seed, wire_ids::specs::Forms::sum, wire_ids::specs::Forms::u8, wire_ids::specs::Forms::below, wire_ids::specs::Forms::mark), using(std::proofs::Common::append_assoc))]
+#[tactic(auto, unfolding(crate::specs::Changes::used_seed, wire_ids::specs::Forms::sum))]
 pub(crate) fn put_used_seed(out: &mut Vec<u8>, value: &UsedSeed) -> Result<(), Memory>
     ensures spelled { Writes result out.old.items out.new.items (used_seed.spell value.now) }
     ensures fits { OnOk result (used_seed.Fits value.now) }
 {
     match value {
-        UsedSeed::Rejoin0(place) => put(out, &[0, place.get()]),
-        UsedSeed::Rejoin1 => put(out, &[1, 255]),
-        UsedSeed::Rejoin2(place) => put(out, &[2, place.get()]),
+        UsedSeed::Rejoin0(place) => {
+            put(out, &[0])?;
+            put_seed_place(out, *place)
+        }
+        UsedSeed::Rejoin1 => {
+            put(out, &[1])?;
+            put_no_place(out)
+        }
+        UsedSeed::Rejoin2(place) => {
+            put(out, &[2])?;
+            put_seed_place(out, *place)
+        }
     }
 }
 
-#[tactic(auto, unfolding(crate::specs::Changes::own_context, wire_ids::specs::Forms::named, wire_ids::specs::Forms::both))]
 pub(crate) fn own_context_at(rest: &mut Rest) -> Result<OwnContext, Unread>
     ensures { Reads result rest.new (own_context.read rest.old) }
 {
@@ -127,7 +153,6 @@ pub(crate) fn own_context_at(rest: &mut Rest) -> Result<OwnContext, Unread>
     Ok(OwnContext { dev_addr, radio })
 }
 
-#[tactic(auto, unfolding(crate::specs::Changes::own_context, wire_ids::specs::Forms::named, wire_ids::specs::Forms::both), using(std::proofs::Common::append_assoc))]
 pub(crate) fn put_own_context(out: &mut Vec<u8>, value: &OwnContext) -> Result<(), Memory>
     ensures spelled { Writes result out.old.items out.new.items (own_context.spell value.now) }
     ensures fits { OnOk result (own_context.Fits value.now) }
@@ -136,7 +161,6 @@ pub(crate) fn put_own_context(out: &mut Vec<u8>, value: &OwnContext) -> Result<(
     put_radio(out, &value.radio)
 }
 
-#[tactic(auto, unfolding(crate::specs::Changes::joined, wire_ids::specs::Forms::named, wire_ids::specs::Forms::both))]
 pub(crate) fn joined_at(rest: &mut Rest) -> Result<Joined, Unread>
     ensures { Reads result rest.new (joined.read rest.old) }
 {
@@ -152,7 +176,6 @@ pub(crate) fn joined_at(rest: &mut Rest) -> Result<Joined, Unread>
     })
 }
 
-#[tactic(auto, unfolding(crate::specs::Changes::joined, wire_ids::specs::Forms::named, wire_ids::specs::Forms::both), using(std::proofs::Common::append_assoc))]
 pub(crate) fn put_joined(out: &mut Vec<u8>, value: &Joined) -> Result<(), Memory>
     ensures spelled { Writes result out.old.items out.new.items (joined.spell value.now) }
     ensures fits { OnOk result (joined.Fits value.now) }
@@ -163,7 +186,6 @@ pub(crate) fn put_joined(out: &mut Vec<u8>, value: &Joined) -> Result<(), Memory
     put_own_context_option(out, &value.own)
 }
 
-#[tactic(auto, unfolding(crate::specs::Changes::rejoined, wire_ids::specs::Forms::named, wire_ids::specs::Forms::both))]
 pub(crate) fn rejoined_at(rest: &mut Rest) -> Result<Rejoined, Unread>
     ensures { Reads result rest.new (rejoined.read rest.old) }
 {
@@ -181,7 +203,6 @@ pub(crate) fn rejoined_at(rest: &mut Rest) -> Result<Rejoined, Unread>
     })
 }
 
-#[tactic(auto, unfolding(crate::specs::Changes::rejoined, wire_ids::specs::Forms::named, wire_ids::specs::Forms::both), using(std::proofs::Common::append_assoc))]
 pub(crate) fn put_rejoined(out: &mut Vec<u8>, value: &Rejoined) -> Result<(), Memory>
     ensures spelled { Writes result out.old.items out.new.items (rejoined.spell value.now) }
     ensures fits { OnOk result (rejoined.Fits value.now) }
@@ -205,22 +226,19 @@ pub(crate) fn downlink_at(rest: &mut Rest) -> Result<Downlink, Unread>
     }
 }
 
-#[tactic(auto, unfolding(crate::specs::Changes::downlink, wire_ids::specs::Forms::sum, wire_ids::specs::Forms::u8))]
+#[tactic(auto, unfolding(crate::specs::Changes::downlink, wire_ids::specs::Forms::sum))]
 pub(crate) fn put_downlink(out: &mut Vec<u8>, value: &Downlink) -> Result<(), Memory>
     ensures spelled { Writes result out.old.items out.new.items (downlink.spell value.now) }
     ensures fits { OnOk result (downlink.Fits value.now) }
 {
-    put_u8(
-        out,
-        match value {
-            Downlink::Nothing => 0,
-            Downlink::Empty => 1,
-            Downlink::FirstItem => 2,
-        },
-    )
+    let byte = match value {
+        Downlink::Nothing => 0,
+        Downlink::Empty => 1,
+        Downlink::FirstItem => 2,
+    };
+    put(out, &[byte])
 }
 
-#[tactic(auto, unfolding(crate::specs::Changes::uplink, wire_ids::specs::Forms::named, wire_ids::specs::Forms::both))]
 pub(crate) fn uplink_at(alloc: Global, rest: &mut Rest) -> Result<Uplink, Unread>
     ensures { Reads result rest.new (uplink.read rest.old) }
 {
@@ -240,7 +258,6 @@ pub(crate) fn uplink_at(alloc: Global, rest: &mut Rest) -> Result<Uplink, Unread
     })
 }
 
-#[tactic(auto, unfolding(crate::specs::Changes::uplink, wire_ids::specs::Forms::named, wire_ids::specs::Forms::both), using(std::proofs::Common::append_assoc))]
 pub(crate) fn put_uplink(out: &mut Vec<u8>, value: &Uplink) -> Result<(), Memory>
     ensures spelled { Writes result out.old.items out.new.items (uplink.spell value.now) }
     ensures fits { OnOk result (uplink.Fits value.now) }
@@ -253,7 +270,6 @@ pub(crate) fn put_uplink(out: &mut Vec<u8>, value: &Uplink) -> Result<(), Memory
     put_downlink(out, &value.down)
 }
 
-#[tactic(auto, unfolding(crate::specs::Changes::passive_uplink, wire_ids::specs::Forms::named, wire_ids::specs::Forms::both))]
 pub(crate) fn passive_uplink_at(alloc: Global, rest: &mut Rest) -> Result<PassiveUplink, Unread>
     ensures { Reads result rest.new (passive_uplink.read rest.old) }
 {
@@ -263,7 +279,6 @@ pub(crate) fn passive_uplink_at(alloc: Global, rest: &mut Rest) -> Result<Passiv
     Ok(PassiveUplink { up, net, until })
 }
 
-#[tactic(auto, unfolding(crate::specs::Changes::passive_uplink, wire_ids::specs::Forms::named, wire_ids::specs::Forms::both), using(std::proofs::Common::append_assoc))]
 pub(crate) fn put_passive_uplink(out: &mut Vec<u8>, value: &PassiveUplink) -> Result<(), Memory>
     ensures spelled { Writes result out.old.items out.new.items (passive_uplink.spell value.now) }
     ensures fits { OnOk result (passive_uplink.Fits value.now) }
@@ -273,7 +288,6 @@ pub(crate) fn put_passive_uplink(out: &mut Vec<u8>, value: &PassiveUplink) -> Re
     put_moment(out, &value.until)
 }
 
-#[tactic(auto, unfolding(crate::specs::Changes::queued, wire_ids::specs::Forms::named, wire_ids::specs::Forms::both))]
 pub(crate) fn queued_at(alloc: Global, rest: &mut Rest) -> Result<Queued, Unread>
     ensures { Reads result rest.new (queued.read rest.old) }
 {
@@ -291,7 +305,6 @@ pub(crate) fn queued_at(alloc: Global, rest: &mut Rest) -> Result<Queued, Unread
     })
 }
 
-#[tactic(auto, unfolding(crate::specs::Changes::queued, wire_ids::specs::Forms::named, wire_ids::specs::Forms::both), using(std::proofs::Common::append_assoc))]
 pub(crate) fn put_queued(out: &mut Vec<u8>, value: &Queued) -> Result<(), Memory>
     ensures spelled { Writes result out.old.items out.new.items (queued.spell value.now) }
     ensures fits { OnOk result (queued.Fits value.now) }
@@ -315,22 +328,19 @@ pub(crate) fn roaming_kind_at(rest: &mut Rest) -> Result<RoamingKind, Unread>
     }
 }
 
-#[tactic(auto, unfolding(crate::specs::Changes::roaming_kind, wire_ids::specs::Forms::sum, wire_ids::specs::Forms::u8))]
+#[tactic(auto, unfolding(crate::specs::Changes::roaming_kind, wire_ids::specs::Forms::sum))]
 pub(crate) fn put_roaming_kind(out: &mut Vec<u8>, value: &RoamingKind) -> Result<(), Memory>
     ensures spelled { Writes result out.old.items out.new.items (roaming_kind.spell value.now) }
     ensures fits { OnOk result (roaming_kind.Fits value.now) }
 {
-    put_u8(
-        out,
-        match value {
-            RoamingKind::Held => 0,
-            RoamingKind::Lent => 1,
-            RoamingKind::Visitor => 2,
-        },
-    )
+    let byte = match value {
+        RoamingKind::Held => 0,
+        RoamingKind::Lent => 1,
+        RoamingKind::Visitor => 2,
+    };
+    put(out, &[byte])
 }
 
-#[tactic(auto, unfolding(crate::specs::Changes::stopped, wire_ids::specs::Forms::named, wire_ids::specs::Forms::both))]
 pub(crate) fn stopped_at(rest: &mut Rest) -> Result<Stopped, Unread>
     ensures { Reads result rest.new (stopped.read rest.old) }
 {
@@ -339,7 +349,6 @@ pub(crate) fn stopped_at(rest: &mut Rest) -> Result<Stopped, Unread>
     Ok(Stopped { dev_eui, what })
 }
 
-#[tactic(auto, unfolding(crate::specs::Changes::stopped, wire_ids::specs::Forms::named, wire_ids::specs::Forms::both), using(std::proofs::Common::append_assoc))]
 pub(crate) fn put_stopped(out: &mut Vec<u8>, value: &Stopped) -> Result<(), Memory>
     ensures spelled { Writes result out.old.items out.new.items (stopped.spell value.now) }
     ensures fits { OnOk result (stopped.Fits value.now) }

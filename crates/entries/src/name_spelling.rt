@@ -1,9 +1,11 @@
+#![tactic(auto, unfolding(wire_ids::specs::Forms::named, wire_ids::specs::Forms::both))]
+
 ghost use Rattle.std.specs.Prelude.{◌≡◌, OnOk};
 ghost use Rattle.wire_ids.specs.Forms.{exactly, optional};
 ghost use Rattle.entries.specs.Names.{eui, dev_addr, moment, radio, session_keys, sender, peer};
 ghost use Rattle.entries.specs.Reads.{Reads, Writes};
 
-use crate::out::{put_net, put_sixteen, put_u8, put_u32, put_u64};
+use crate::out::{put, put_net, put_sixteen, put_u8, put_u32, put_u64};
 use crate::rest::Rest;
 use crate::unread::Unread;
 use wire_ids::{DevAddr, Eui, Memory, Moment, PeerId, Radio, Sender, SessionKeys};
@@ -19,28 +21,26 @@ fn cf_list_option_at(rest: &mut Rest) -> Result<Option<[u8; 16]>, Unread>
     }
 }
 
-#[tactic(auto, unfolding(wire_ids::specs::Forms::optional, wire_ids::specs::Forms::sum, wire_ids::specs::Forms::u8), using(std::proofs::Common::append_assoc))]
+#[tactic(auto, unfolding(wire_ids::specs::Forms::optional, wire_ids::specs::Forms::sum))]
 fn put_cf_list_option(out: &mut Vec<u8>, value: &Option<[u8; 16]>) -> Result<(), Memory>
     ensures spelled { Writes result out.old.items out.new.items ((optional (exactly 16)).spell value.now) }
     ensures fits { OnOk result ((optional (exactly 16)).Fits value.now) }
 {
     match value {
-        None => put_u8(out, 0),
+        None => put(out, &[0]),
         Some(value) => {
-            put_u8(out, 1)?;
+            put(out, &[1])?;
             put_sixteen(out, value)
         }
     }
 }
 
-#[tactic(auto, unfolding(crate::specs::Names::eui, wire_ids::specs::Forms::named))]
 pub(crate) fn eui_at(rest: &mut Rest) -> Result<Eui, Unread>
     ensures { Reads result rest.new (eui.read rest.old) }
 {
     Ok(Eui(rest.u64()?))
 }
 
-#[tactic(auto, unfolding(crate::specs::Names::eui, wire_ids::specs::Forms::named))]
 pub(crate) fn put_eui(out: &mut Vec<u8>, value: &Eui) -> Result<(), Memory>
     ensures spelled { Writes result out.old.items out.new.items (eui.spell value.now) }
     ensures fits { OnOk result (eui.Fits value.now) }
@@ -48,14 +48,12 @@ pub(crate) fn put_eui(out: &mut Vec<u8>, value: &Eui) -> Result<(), Memory>
     put_u64(out, value.0)
 }
 
-#[tactic(auto, unfolding(crate::specs::Names::dev_addr, wire_ids::specs::Forms::named))]
 pub(crate) fn dev_addr_at(rest: &mut Rest) -> Result<DevAddr, Unread>
     ensures { Reads result rest.new (dev_addr.read rest.old) }
 {
     Ok(DevAddr(rest.u32()?))
 }
 
-#[tactic(auto, unfolding(crate::specs::Names::dev_addr, wire_ids::specs::Forms::named))]
 pub(crate) fn put_dev_addr(out: &mut Vec<u8>, value: &DevAddr) -> Result<(), Memory>
     ensures spelled { Writes result out.old.items out.new.items (dev_addr.spell value.now) }
     ensures fits { OnOk result (dev_addr.Fits value.now) }
@@ -63,14 +61,12 @@ pub(crate) fn put_dev_addr(out: &mut Vec<u8>, value: &DevAddr) -> Result<(), Mem
     put_u32(out, value.0)
 }
 
-#[tactic(auto, unfolding(crate::specs::Names::moment, wire_ids::specs::Forms::named))]
 pub(crate) fn moment_at(rest: &mut Rest) -> Result<Moment, Unread>
     ensures { Reads result rest.new (moment.read rest.old) }
 {
     Ok(Moment(rest.u64()?))
 }
 
-#[tactic(auto, unfolding(crate::specs::Names::moment, wire_ids::specs::Forms::named))]
 pub(crate) fn put_moment(out: &mut Vec<u8>, value: &Moment) -> Result<(), Memory>
     ensures spelled { Writes result out.old.items out.new.items (moment.spell value.now) }
     ensures fits { OnOk result (moment.Fits value.now) }
@@ -78,7 +74,6 @@ pub(crate) fn put_moment(out: &mut Vec<u8>, value: &Moment) -> Result<(), Memory
     put_u64(out, value.0)
 }
 
-#[tactic(auto, unfolding(crate::specs::Names::radio, wire_ids::specs::Forms::named, wire_ids::specs::Forms::both))]
 pub(crate) fn radio_at(rest: &mut Rest) -> Result<Radio, Unread>
     ensures { Reads result rest.new (radio.read rest.old) }
 {
@@ -88,7 +83,6 @@ pub(crate) fn radio_at(rest: &mut Rest) -> Result<Radio, Unread>
     Ok(Radio { dl, rx_delay, cf })
 }
 
-#[tactic(auto, unfolding(crate::specs::Names::radio, wire_ids::specs::Forms::named, wire_ids::specs::Forms::both), using(std::proofs::Common::append_assoc))]
 pub(crate) fn put_radio(out: &mut Vec<u8>, value: &Radio) -> Result<(), Memory>
     ensures spelled { Writes result out.old.items out.new.items (radio.spell value.now) }
     ensures fits { OnOk result (radio.Fits value.now) }
@@ -98,7 +92,6 @@ pub(crate) fn put_radio(out: &mut Vec<u8>, value: &Radio) -> Result<(), Memory>
     put_cf_list_option(out, &value.cf)
 }
 
-#[tactic(auto, unfolding(crate::specs::Names::session_keys, wire_ids::specs::Forms::named, wire_ids::specs::Forms::both))]
 pub(crate) fn session_keys_at(rest: &mut Rest) -> Result<SessionKeys, Unread>
     ensures { Reads result rest.new (session_keys.read rest.old) }
 {
@@ -108,7 +101,6 @@ pub(crate) fn session_keys_at(rest: &mut Rest) -> Result<SessionKeys, Unread>
     Ok(SessionKeys { f, s, e })
 }
 
-#[tactic(auto, unfolding(crate::specs::Names::session_keys, wire_ids::specs::Forms::named, wire_ids::specs::Forms::both), using(std::proofs::Common::append_assoc))]
 pub(crate) fn put_session_keys(out: &mut Vec<u8>, value: &SessionKeys) -> Result<(), Memory>
     ensures spelled { Writes result out.old.items out.new.items (session_keys.spell value.now) }
     ensures fits { OnOk result (session_keys.Fits value.now) }
@@ -129,18 +121,18 @@ pub(crate) fn sender_at(rest: &mut Rest) -> Result<Sender, Unread>
     }
 }
 
-#[tactic(auto, unfolding(crate::specs::Names::sender, wire_ids::specs::Forms::sum, wire_ids::specs::Forms::u8), using(std::proofs::Common::append_assoc))]
+#[tactic(auto, unfolding(crate::specs::Names::sender, wire_ids::specs::Forms::sum))]
 pub(crate) fn put_sender(out: &mut Vec<u8>, value: &Sender) -> Result<(), Memory>
     ensures spelled { Writes result out.old.items out.new.items (sender.spell value.now) }
     ensures fits { OnOk result (sender.Fits value.now) }
 {
     match value {
         Sender::Network(net) => {
-            put_u8(out, 0)?;
+            put(out, &[0])?;
             put_net(out, *net)
         }
         Sender::Party(party) => {
-            put_u8(out, 1)?;
+            put(out, &[1])?;
             put_eui(out, party)
         }
     }
@@ -157,18 +149,18 @@ pub(crate) fn peer_at(rest: &mut Rest) -> Result<PeerId, Unread>
     }
 }
 
-#[tactic(auto, unfolding(crate::specs::Names::peer, wire_ids::specs::Forms::sum, wire_ids::specs::Forms::u8), using(std::proofs::Common::append_assoc))]
+#[tactic(auto, unfolding(crate::specs::Names::peer, wire_ids::specs::Forms::sum))]
 pub(crate) fn put_peer(out: &mut Vec<u8>, value: &PeerId) -> Result<(), Memory>
     ensures spelled { Writes result out.old.items out.new.items (peer.spell value.now) }
     ensures fits { OnOk result (peer.Fits value.now) }
 {
     match value {
         PeerId::Network(net) => {
-            put_u8(out, 0)?;
+            put(out, &[0])?;
             put_net(out, *net)
         }
         PeerId::JoinServer(server) => {
-            put_u8(out, 1)?;
+            put(out, &[1])?;
             put_eui(out, server)
         }
     }

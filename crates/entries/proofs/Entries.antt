@@ -20,11 +20,9 @@ use Rattle.entries.proofs.Asks.{form-new_ask, form-ask_outcome}
 -- ---- kept requests
 
 form-request : IsForm request
-unfolding request
 form-request = form-named _ _ _ (λ p. refl) (λ x. refl) (form-both _ _ form-sender (form-both _ _ form-short form-short))
 
 form-lending : IsForm lending
-unfolding lending
 form-lending = form-named _ _ _ (λ p. refl) (λ x. refl) (form-both _ _ (form-optional _ form-used_seed) (form-both _ _ form-request (form-both _ _ form-u32 (form-both _ _ form-u16 (form-both _ _ form-u24 (form-both _ _ form-u24 form-moment))))))
 
 form-join : IsForm (both request joined)

@@ -14,13 +14,13 @@ use Rattle.entries.specs.Asks.{new_ask, ask_outcome}
 
 -- ---- kept requests, with what they changed
 
-unfoldable pub request : Form Request
+abbrev pub request : Form Request
 request = named (both sender (both short short))
     (λ p. record { sender = p.0; body = p.1.0; answer = p.1.1 })
     (λ x. (x.sender, (x.body, x.answer)))
 
 -- what was used stands before the request
-unfoldable pub lending : Form (Request × Lending)
+abbrev pub lending : Form (Request × Lending)
 lending = named (both (optional used_seed) (both request (both u32 (both u16 (both u24 (both u24 moment))))))
     (λ p. (p.1.0, record { used = p.0; device = p.1.1.0; counter = p.1.1.1.0; join_nonce = p.1.1.1.1.0; net = p.1.1.1.1.1.0; until = p.1.1.1.1.1.1 }))
     (λ x. (x.1.used, (x.0, (x.1.device, (x.1.counter, (x.1.join_nonce, (x.1.net, x.1.until)))))))

@@ -1,7 +1,6 @@
 -- What a reader of the code answers and leaves, by what its form reads.
-use Rattle.std.specs.Prelude.{◌≡◌, ◌++◌, List, ℕ, Option, Some, None, Result, Ok, Err}
+use Rattle.std.specs.Prelude.{◌≡◌, List, ℕ, Option, Some, None, Result, Ok, Err}
 use Rattle.wire_ids.specs.Forms.{Read}
-use Rattle.wire_ids.specs.declared.memory.Memory.{Memory as Want}
 use Rattle.entries.specs.declared.unread.Unread.{Unread}
 use Rattle.entries.specs.declared.unread.Unread.TheVariants.{Memory, NoEntry}
 
@@ -18,8 +17,3 @@ Reads (Err e) rest read = Fails e read
 abbrev pub ReadsAll : {A : Type 0} → Result A Unread → Option A → Type 0
 ReadsAll (Ok a) read = read ≡ Some a
 ReadsAll (Err e) read = Fails e read
-
--- the text goes to the end, unless memory ran out
-abbrev pub Writes : {A : Type 0} → Result A Want → List ℕ → List ℕ → List ℕ → Type 0
-Writes (Ok a) old new text = new ≡ old ++ text
-Writes (Err e) old new text = Unit {0}

@@ -1,11 +1,13 @@
-#![tactic(auto, unfolding(wire_ids::specs::Forms::named, wire_ids::specs::Forms::both))]
+#![tactic(auto, // A record is spelled field by field.
+unfolding(wire_ids::specs::Forms::named, wire_ids::specs::Forms::both), // one after another
+using(std::proofs::Common::append_assoc))]
 
-ghost use Rattle.std.specs.Prelude.{◌≡◌, OnOk};
+ghost use Rattle.std.specs.Prelude.{◌≡◌, ◌++◌, OnOk};
 ghost use Rattle.wire_ids.specs.Forms.{optional, u64};
 ghost use Rattle.entries.specs.Names.{eui, dev_addr, radio};
 ghost use Rattle.entries.specs.Asks.{ask_kind, rejoin_count, target, new_ask, new_visitor};
 ghost use Rattle.entries.specs.Asks.{held_session, held_count, effect, ask_outcome};
-ghost use Rattle.entries.specs.Reads.{Reads, Writes};
+ghost use Rattle.entries.specs.Reads.{Reads};
 
 use crate::name_spelling::{
     dev_addr_at, eui_at, moment_at, peer_at, put_dev_addr, put_eui, put_moment, put_peer,
@@ -35,7 +37,7 @@ fn eui_option_at(rest: &mut Rest) -> Result<Option<Eui>, Unread>
 
 #[tactic(auto, unfolding(wire_ids::specs::Forms::optional, wire_ids::specs::Forms::sum))]
 fn put_eui_option(out: &mut Vec<u8>, value: &Option<Eui>) -> Result<(), Memory>
-    ensures spelled { Writes result out.old.items out.new.items ((optional eui).spell value.now) }
+    ensures spelled { OnOk result (out.new.items ≡ out.old.items ++ (optional eui).spell value.now) }
     ensures fits { OnOk result ((optional eui).Fits value.now) }
 {
     match value {
@@ -60,7 +62,7 @@ fn dev_addr_option_at(rest: &mut Rest) -> Result<Option<DevAddr>, Unread>
 
 #[tactic(auto, unfolding(wire_ids::specs::Forms::optional, wire_ids::specs::Forms::sum))]
 fn put_dev_addr_option(out: &mut Vec<u8>, value: &Option<DevAddr>) -> Result<(), Memory>
-    ensures spelled { Writes result out.old.items out.new.items ((optional dev_addr).spell value.now) }
+    ensures spelled { OnOk result (out.new.items ≡ out.old.items ++ (optional dev_addr).spell value.now) }
     ensures fits { OnOk result ((optional dev_addr).Fits value.now) }
 {
     match value {
@@ -85,7 +87,7 @@ fn radio_option_at(rest: &mut Rest) -> Result<Option<Radio>, Unread>
 
 #[tactic(auto, unfolding(wire_ids::specs::Forms::optional, wire_ids::specs::Forms::sum))]
 fn put_radio_option(out: &mut Vec<u8>, value: &Option<Radio>) -> Result<(), Memory>
-    ensures spelled { Writes result out.old.items out.new.items ((optional radio).spell value.now) }
+    ensures spelled { OnOk result (out.new.items ≡ out.old.items ++ (optional radio).spell value.now) }
     ensures fits { OnOk result ((optional radio).Fits value.now) }
 {
     match value {
@@ -110,7 +112,7 @@ fn rejoin_count_option_at(rest: &mut Rest) -> Result<Option<RejoinCount>, Unread
 
 #[tactic(auto, unfolding(wire_ids::specs::Forms::optional, wire_ids::specs::Forms::sum))]
 fn put_rejoin_count_option(out: &mut Vec<u8>, value: &Option<RejoinCount>) -> Result<(), Memory>
-    ensures spelled { Writes result out.old.items out.new.items ((optional rejoin_count).spell value.now) }
+    ensures spelled { OnOk result (out.new.items ≡ out.old.items ++ (optional rejoin_count).spell value.now) }
     ensures fits { OnOk result ((optional rejoin_count).Fits value.now) }
 {
     match value {
@@ -135,7 +137,7 @@ fn number_option_at(rest: &mut Rest) -> Result<Option<u64>, Unread>
 
 #[tactic(auto, unfolding(wire_ids::specs::Forms::optional, wire_ids::specs::Forms::sum))]
 fn put_number_option(out: &mut Vec<u8>, value: &Option<u64>) -> Result<(), Memory>
-    ensures spelled { Writes result out.old.items out.new.items ((optional u64).spell value.now) }
+    ensures spelled { OnOk result (out.new.items ≡ out.old.items ++ (optional u64).spell value.now) }
     ensures fits { OnOk result ((optional u64).Fits value.now) }
 {
     match value {
@@ -162,7 +164,7 @@ pub(crate) fn ask_kind_at(rest: &mut Rest) -> Result<AskKind, Unread>
 
 #[tactic(auto, unfolding(crate::specs::Asks::ask_kind, wire_ids::specs::Forms::sum))]
 pub(crate) fn put_ask_kind(out: &mut Vec<u8>, value: &AskKind) -> Result<(), Memory>
-    ensures spelled { Writes result out.old.items out.new.items (ask_kind.spell value.now) }
+    ensures spelled { OnOk result (out.new.items ≡ out.old.items ++ ask_kind.spell value.now) }
     ensures fits { OnOk result (ask_kind.Fits value.now) }
 {
     let byte = match value {
@@ -183,7 +185,7 @@ pub(crate) fn rejoin_count_at(rest: &mut Rest) -> Result<RejoinCount, Unread>
 }
 
 pub(crate) fn put_rejoin_count(out: &mut Vec<u8>, value: &RejoinCount) -> Result<(), Memory>
-    ensures spelled { Writes result out.old.items out.new.items (rejoin_count.spell value.now) }
+    ensures spelled { OnOk result (out.new.items ≡ out.old.items ++ rejoin_count.spell value.now) }
     ensures fits { OnOk result (rejoin_count.Fits value.now) }
 {
     put_u16(out, value.count)?;
@@ -214,7 +216,7 @@ pub(crate) fn target_at(alloc: Global, rest: &mut Rest) -> Result<Target, Unread
 }
 
 pub(crate) fn put_target(out: &mut Vec<u8>, value: &Target) -> Result<(), Memory>
-    ensures spelled { Writes result out.old.items out.new.items (target.spell value.now) }
+    ensures spelled { OnOk result (out.new.items ≡ out.old.items ++ target.spell value.now) }
     ensures fits { OnOk result (target.Fits value.now) }
 {
     put_ask_kind(out, &value.kind)?;
@@ -245,7 +247,7 @@ pub(crate) fn new_ask_at(alloc: Global, rest: &mut Rest) -> Result<NewAsk, Unrea
 }
 
 pub(crate) fn put_new_ask(out: &mut Vec<u8>, value: &NewAsk) -> Result<(), Memory>
-    ensures spelled { Writes result out.old.items out.new.items (new_ask.spell value.now) }
+    ensures spelled { OnOk result (out.new.items ≡ out.old.items ++ new_ask.spell value.now) }
     ensures fits { OnOk result (new_ask.Fits value.now) }
 {
     put_number_option(out, &value.closes)?;
@@ -275,7 +277,7 @@ pub(crate) fn new_visitor_at(rest: &mut Rest) -> Result<NewVisitor, Unread>
 }
 
 pub(crate) fn put_new_visitor(out: &mut Vec<u8>, value: &NewVisitor) -> Result<(), Memory>
-    ensures spelled { Writes result out.old.items out.new.items (new_visitor.spell value.now) }
+    ensures spelled { OnOk result (out.new.items ≡ out.old.items ++ new_visitor.spell value.now) }
     ensures fits { OnOk result (new_visitor.Fits value.now) }
 {
     put_eui(out, &value.dev_eui)?;
@@ -306,7 +308,7 @@ pub(crate) fn held_session_at(rest: &mut Rest) -> Result<HeldSession, Unread>
 }
 
 pub(crate) fn put_held_session(out: &mut Vec<u8>, value: &HeldSession) -> Result<(), Memory>
-    ensures spelled { Writes result out.old.items out.new.items (held_session.spell value.now) }
+    ensures spelled { OnOk result (out.new.items ≡ out.old.items ++ held_session.spell value.now) }
     ensures fits { OnOk result (held_session.Fits value.now) }
 {
     put_net(out, value.net)?;
@@ -331,7 +333,7 @@ pub(crate) fn held_count_at(rest: &mut Rest) -> Result<HeldCount, Unread>
 }
 
 pub(crate) fn put_held_count(out: &mut Vec<u8>, value: &HeldCount) -> Result<(), Memory>
-    ensures spelled { Writes result out.old.items out.new.items (held_count.spell value.now) }
+    ensures spelled { OnOk result (out.new.items ≡ out.old.items ++ held_count.spell value.now) }
     ensures fits { OnOk result (held_count.Fits value.now) }
 {
     put_net(out, value.net)?;
@@ -354,7 +356,7 @@ pub(crate) fn effect_at(rest: &mut Rest) -> Result<Effect, Unread>
 
 #[tactic(auto, unfolding(crate::specs::Asks::effect, wire_ids::specs::Forms::sum))]
 pub(crate) fn put_effect(out: &mut Vec<u8>, value: &Effect) -> Result<(), Memory>
-    ensures spelled { Writes result out.old.items out.new.items (effect.spell value.now) }
+    ensures spelled { OnOk result (out.new.items ≡ out.old.items ++ effect.spell value.now) }
     ensures fits { OnOk result (effect.Fits value.now) }
 {
     match value {
@@ -390,7 +392,7 @@ pub(crate) fn ask_outcome_at(alloc: Global, rest: &mut Rest) -> Result<AskOutcom
 }
 
 pub(crate) fn put_ask_outcome(out: &mut Vec<u8>, value: &AskOutcome) -> Result<(), Memory>
-    ensures spelled { Writes result out.old.items out.new.items (ask_outcome.spell value.now) }
+    ensures spelled { OnOk result (out.new.items ≡ out.old.items ++ ask_outcome.spell value.now) }
     ensures fits { OnOk result (ask_outcome.Fits value.now) }
 {
     put_u64(out, value.ask)?;

@@ -1,10 +1,12 @@
-#![tactic(auto, unfolding(wire_ids::specs::Forms::named, wire_ids::specs::Forms::both))]
+#![tactic(auto, // A record is spelled field by field.
+unfolding(wire_ids::specs::Forms::named, wire_ids::specs::Forms::both), // one after another
+using(std::proofs::Common::append_assoc))]
 
-ghost use Rattle.std.specs.Prelude.{◌≡◌, OnOk};
+ghost use Rattle.std.specs.Prelude.{◌≡◌, ◌++◌, OnOk};
 ghost use Rattle.wire_ids.specs.Forms.{below, mark, optional};
 ghost use Rattle.entries.specs.Changes.{used_seed, own_context, joined, rejoined, downlink};
 ghost use Rattle.entries.specs.Changes.{uplink, passive_uplink, queued, roaming_kind, stopped};
-ghost use Rattle.entries.specs.Reads.{Reads, Writes};
+ghost use Rattle.entries.specs.Reads.{Reads};
 
 use crate::name_spelling::{
     dev_addr_at, eui_at, moment_at, put_dev_addr, put_eui, put_moment, put_radio, radio_at,
@@ -31,8 +33,8 @@ fn seed_place_at(rest: &mut Rest) -> Result<SeedPlace, Unread>
 
 #[tactic(auto, unfolding(wire_ids::specs::Forms::below))]
 fn put_seed_place(out: &mut Vec<u8>, value: SeedPlace) -> Result<(), Memory>
-    ensures spelled { Writes result out.old.items out.new.items ((below 4).spell value) }
-    ensures fits { (below 4).Fits value }
+    ensures spelled { OnOk result (out.new.items ≡ out.old.items ++ (below 4).spell value) }
+    ensures fits { OnOk result ((below 4).Fits value) }
 {
     put(out, &[value.get()])
 }
@@ -50,8 +52,8 @@ fn no_place_at(rest: &mut Rest) -> Result<(), Unread>
 
 #[tactic(auto, unfolding(wire_ids::specs::Forms::mark))]
 fn put_no_place(out: &mut Vec<u8>) -> Result<(), Memory>
-    ensures spelled { Writes result out.old.items out.new.items ((mark 255).spell tt) }
-    ensures fits { (mark 255).Fits tt }
+    ensures spelled { OnOk result (out.new.items ≡ out.old.items ++ (mark 255).spell tt) }
+    ensures fits { OnOk result ((mark 255).Fits tt) }
 {
     put(out, &[255])
 }
@@ -69,7 +71,7 @@ fn own_context_option_at(rest: &mut Rest) -> Result<Option<OwnContext>, Unread>
 
 #[tactic(auto, unfolding(wire_ids::specs::Forms::optional, wire_ids::specs::Forms::sum))]
 fn put_own_context_option(out: &mut Vec<u8>, value: &Option<OwnContext>) -> Result<(), Memory>
-    ensures spelled { Writes result out.old.items out.new.items ((optional own_context).spell value.now) }
+    ensures spelled { OnOk result (out.new.items ≡ out.old.items ++ (optional own_context).spell value.now) }
     ensures fits { OnOk result ((optional own_context).Fits value.now) }
 {
     match value {
@@ -97,7 +99,7 @@ pub(crate) fn put_used_seed_option(
     out: &mut Vec<u8>,
     value: &Option<UsedSeed>,
 ) -> Result<(), Memory>
-    ensures spelled { Writes result out.old.items out.new.items ((optional used_seed).spell value.now) }
+    ensures spelled { OnOk result (out.new.items ≡ out.old.items ++ (optional used_seed).spell value.now) }
     ensures fits { OnOk result ((optional used_seed).Fits value.now) }
 {
     match value {
@@ -126,7 +128,7 @@ pub(crate) fn used_seed_at(rest: &mut Rest) -> Result<UsedSeed, Unread>
 
 #[tactic(auto, unfolding(crate::specs::Changes::used_seed, wire_ids::specs::Forms::sum))]
 pub(crate) fn put_used_seed(out: &mut Vec<u8>, value: &UsedSeed) -> Result<(), Memory>
-    ensures spelled { Writes result out.old.items out.new.items (used_seed.spell value.now) }
+    ensures spelled { OnOk result (out.new.items ≡ out.old.items ++ used_seed.spell value.now) }
     ensures fits { OnOk result (used_seed.Fits value.now) }
 {
     match value {
@@ -154,7 +156,7 @@ pub(crate) fn own_context_at(rest: &mut Rest) -> Result<OwnContext, Unread>
 }
 
 pub(crate) fn put_own_context(out: &mut Vec<u8>, value: &OwnContext) -> Result<(), Memory>
-    ensures spelled { Writes result out.old.items out.new.items (own_context.spell value.now) }
+    ensures spelled { OnOk result (out.new.items ≡ out.old.items ++ own_context.spell value.now) }
     ensures fits { OnOk result (own_context.Fits value.now) }
 {
     put_dev_addr(out, &value.dev_addr)?;
@@ -177,7 +179,7 @@ pub(crate) fn joined_at(rest: &mut Rest) -> Result<Joined, Unread>
 }
 
 pub(crate) fn put_joined(out: &mut Vec<u8>, value: &Joined) -> Result<(), Memory>
-    ensures spelled { Writes result out.old.items out.new.items (joined.spell value.now) }
+    ensures spelled { OnOk result (out.new.items ≡ out.old.items ++ joined.spell value.now) }
     ensures fits { OnOk result (joined.Fits value.now) }
 {
     put_u32(out, value.device)?;
@@ -204,7 +206,7 @@ pub(crate) fn rejoined_at(rest: &mut Rest) -> Result<Rejoined, Unread>
 }
 
 pub(crate) fn put_rejoined(out: &mut Vec<u8>, value: &Rejoined) -> Result<(), Memory>
-    ensures spelled { Writes result out.old.items out.new.items (rejoined.spell value.now) }
+    ensures spelled { OnOk result (out.new.items ≡ out.old.items ++ rejoined.spell value.now) }
     ensures fits { OnOk result (rejoined.Fits value.now) }
 {
     put_u32(out, value.device)?;
@@ -228,7 +230,7 @@ pub(crate) fn downlink_at(rest: &mut Rest) -> Result<Downlink, Unread>
 
 #[tactic(auto, unfolding(crate::specs::Changes::downlink, wire_ids::specs::Forms::sum))]
 pub(crate) fn put_downlink(out: &mut Vec<u8>, value: &Downlink) -> Result<(), Memory>
-    ensures spelled { Writes result out.old.items out.new.items (downlink.spell value.now) }
+    ensures spelled { OnOk result (out.new.items ≡ out.old.items ++ downlink.spell value.now) }
     ensures fits { OnOk result (downlink.Fits value.now) }
 {
     let byte = match value {
@@ -259,7 +261,7 @@ pub(crate) fn uplink_at(alloc: Global, rest: &mut Rest) -> Result<Uplink, Unread
 }
 
 pub(crate) fn put_uplink(out: &mut Vec<u8>, value: &Uplink) -> Result<(), Memory>
-    ensures spelled { Writes result out.old.items out.new.items (uplink.spell value.now) }
+    ensures spelled { OnOk result (out.new.items ≡ out.old.items ++ uplink.spell value.now) }
     ensures fits { OnOk result (uplink.Fits value.now) }
 {
     put_eui(out, &value.dev_eui)?;
@@ -280,7 +282,7 @@ pub(crate) fn passive_uplink_at(alloc: Global, rest: &mut Rest) -> Result<Passiv
 }
 
 pub(crate) fn put_passive_uplink(out: &mut Vec<u8>, value: &PassiveUplink) -> Result<(), Memory>
-    ensures spelled { Writes result out.old.items out.new.items (passive_uplink.spell value.now) }
+    ensures spelled { OnOk result (out.new.items ≡ out.old.items ++ passive_uplink.spell value.now) }
     ensures fits { OnOk result (passive_uplink.Fits value.now) }
 {
     put_uplink(out, &value.up)?;
@@ -306,7 +308,7 @@ pub(crate) fn queued_at(alloc: Global, rest: &mut Rest) -> Result<Queued, Unread
 }
 
 pub(crate) fn put_queued(out: &mut Vec<u8>, value: &Queued) -> Result<(), Memory>
-    ensures spelled { Writes result out.old.items out.new.items (queued.spell value.now) }
+    ensures spelled { OnOk result (out.new.items ≡ out.old.items ++ queued.spell value.now) }
     ensures fits { OnOk result (queued.Fits value.now) }
 {
     put_u32(out, value.device)?;
@@ -330,7 +332,7 @@ pub(crate) fn roaming_kind_at(rest: &mut Rest) -> Result<RoamingKind, Unread>
 
 #[tactic(auto, unfolding(crate::specs::Changes::roaming_kind, wire_ids::specs::Forms::sum))]
 pub(crate) fn put_roaming_kind(out: &mut Vec<u8>, value: &RoamingKind) -> Result<(), Memory>
-    ensures spelled { Writes result out.old.items out.new.items (roaming_kind.spell value.now) }
+    ensures spelled { OnOk result (out.new.items ≡ out.old.items ++ roaming_kind.spell value.now) }
     ensures fits { OnOk result (roaming_kind.Fits value.now) }
 {
     let byte = match value {
@@ -350,7 +352,7 @@ pub(crate) fn stopped_at(rest: &mut Rest) -> Result<Stopped, Unread>
 }
 
 pub(crate) fn put_stopped(out: &mut Vec<u8>, value: &Stopped) -> Result<(), Memory>
-    ensures spelled { Writes result out.old.items out.new.items (stopped.spell value.now) }
+    ensures spelled { OnOk result (out.new.items ≡ out.old.items ++ stopped.spell value.now) }
     ensures fits { OnOk result (stopped.Fits value.now) }
 {
     put_eui(out, &value.dev_eui)?;

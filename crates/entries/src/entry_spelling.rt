@@ -1,86 +1,23 @@
-ghost use Rattle.std.specs.Prelude.{◌≡◌, OnOk};
-ghost use Rattle.wire_ids.specs.Forms.{arm};
+ghost use Rattle.std.specs.Prelude.{◌≡◌, ◌++◌, OnOk};
 ghost use Rattle.entries.specs.Entries.{change_tag, entry, event_at, event_fields, event_tag};
-ghost use Rattle.entries.specs.Entries.{FitsEvent, FitsKept, kept_at, kept_fields, lending, request};
-ghost use Rattle.entries.specs.Reads.{Reads, Writes};
+ghost use Rattle.entries.specs.Entries.{FitsEvent, FitsKept, kept_at, kept_fields};
+ghost use Rattle.entries.specs.Reads.{Reads};
 
 use crate::ask_spelling::{ask_outcome_at, new_ask_at, put_ask_outcome, put_new_ask};
 use crate::change_spelling::{
     joined_at, passive_uplink_at, put_joined, put_passive_uplink, put_queued, put_rejoined,
-    put_stopped, put_uplink, put_used_seed_option, queued_at, rejoined_at, stopped_at, uplink_at,
-    used_seed_option_at,
+    put_stopped, put_uplink, queued_at, rejoined_at, stopped_at, uplink_at,
 };
-use crate::name_spelling::{moment_at, put_moment, put_sender, sender_at};
-use crate::out::{put_join_nonce, put_long, put_net, put_short, put_u8, put_u16, put_u32};
+use crate::name_spelling::{moment_at, put_moment};
+use crate::out::{put_long, put_u8, put_u32};
+use crate::request_spelling::{lending_at, put_lending, put_request, request_at};
 use crate::rest::Rest;
 use crate::unread::Unread;
-use crate::{Change, Entry, Event, Lending, Request};
+use crate::{Change, Entry, Event, Request};
 use std::alloc::Global;
 use wire_ids::Memory;
 
 // ---- kept requests
-
-#[tactic(auto, unfolding(crate::specs::Entries::request, wire_ids::specs::Forms::named, wire_ids::specs::Forms::both))]
-fn request_at(alloc: Global, rest: &mut Rest) -> Result<Request, Unread>
-    ensures { Reads result rest.new (request.read rest.old) }
-{
-    let sender = sender_at(rest)?;
-    let body = rest.short(alloc)?;
-    let answer = rest.short(alloc)?;
-    Ok(Request {
-        sender,
-        body,
-        answer,
-    })
-}
-
-#[tactic(auto, unfolding(crate::specs::Entries::request, wire_ids::specs::Forms::named, wire_ids::specs::Forms::both), using(std::proofs::Common::append_assoc))]
-fn put_request(out: &mut Vec<u8>, value: &Request) -> Result<(), Memory>
-    ensures spelled { Writes result out.old.items out.new.items (request.spell value.now) }
-    ensures fits { OnOk result (request.Fits value.now) }
-{
-    put_sender(out, &value.sender)?;
-    put_short(out, &value.body)?;
-    put_short(out, &value.answer)
-}
-
-#[tactic(auto, unfolding(crate::specs::Entries::lending, wire_ids::specs::Forms::named, wire_ids::specs::Forms::both))]
-fn lending_at(alloc: Global, rest: &mut Rest) -> Result<(Request, Lending), Unread>
-    ensures { Reads result rest.new (lending.read rest.old) }
-{
-    let used = used_seed_option_at(rest)?;
-    let request = request_at(alloc, rest)?;
-    let device = rest.u32()?;
-    let counter = rest.u16()?;
-    let join_nonce = rest.join_nonce()?;
-    let net = rest.net()?;
-    let until = moment_at(rest)?;
-    Ok((
-        request,
-        Lending {
-            used,
-            device,
-            counter,
-            join_nonce,
-            net,
-            until,
-        },
-    ))
-}
-
-#[tactic(auto, unfolding(crate::specs::Entries::lending, wire_ids::specs::Forms::named, wire_ids::specs::Forms::both), using(std::proofs::Common::append_assoc))]
-fn put_lending(out: &mut Vec<u8>, request: &Request, value: &Lending) -> Result<(), Memory>
-    ensures spelled { Writes result out.old.items out.new.items (lending.spell (request.now, value.now)) }
-    ensures fits { OnOk result (lending.Fits (request.now, value.now)) }
-{
-    put_used_seed_option(out, &value.used)?;
-    put_request(out, request)?;
-    put_u32(out, value.device)?;
-    put_u16(out, value.counter)?;
-    put_join_nonce(out, value.join_nonce)?;
-    put_net(out, value.net)?;
-    put_moment(out, &value.until)
-}
 
 // The change of a request that stands before its fields.
 #[tactic(auto, unfolding(crate::specs::Entries::kept_at, wire_ids::specs::Forms::both))]
@@ -120,9 +57,10 @@ fn kept_at(alloc: Global, tag: u8, rest: &mut Rest) -> Result<Event, Unread>
     }
 }
 
-#[tactic(auto, unfolding(wire_ids::specs::Forms::both), using(std::proofs::Common::append_assoc))]
+#[tactic(auto, unfolding(wire_ids::specs::Forms::both))]
 fn put_kept(out: &mut Vec<u8>, request: &Request, change: &Change) -> Result<(), Memory>
-    ensures spelled { Writes result out.old.items out.new.items (kept_fields request.now change.now) }
+    ensures spelled { OnOk result
+        (out.new.items ≡ out.old.items ++ kept_fields request.now change.now) }
     ensures fits { OnOk result (FitsKept request.now change.now) }
 {
     match change {
@@ -200,7 +138,7 @@ fn event_tag(event: &Event) -> u8
 }
 
 fn put_event(out: &mut Vec<u8>, event: &Event) -> Result<(), Memory>
-    ensures spelled { Writes result out.old.items out.new.items (event_fields event.now) }
+    ensures spelled { OnOk result (out.new.items ≡ out.old.items ++ event_fields event.now) }
     ensures fits { OnOk result (FitsEvent event.now) }
 {
     match event {
@@ -226,9 +164,9 @@ pub(crate) fn entry_at(alloc: Global, rest: &mut Rest) -> Result<Entry, Unread>
     Ok(Entry { moment, event })
 }
 
-#[tactic(auto, unfolding(crate::specs::Entries::entry, wire_ids::specs::Forms::u8), using(std::proofs::Common::append_assoc))]
+#[tactic(auto, unfolding(crate::specs::Entries::entry, wire_ids::specs::Forms::u8))]
 pub(crate) fn put_entry(out: &mut Vec<u8>, value: &Entry) -> Result<(), Memory>
-    ensures spelled { Writes result out.old.items out.new.items (entry.spell value.now) }
+    ensures spelled { OnOk result (out.new.items ≡ out.old.items ++ entry.spell value.now) }
     ensures fits { OnOk result (entry.Fits value.now) }
 {
     put_u8(out, event_tag(&value.event))?;

@@ -10,6 +10,7 @@ mod entry;
 mod entry_spelling;
 mod name_spelling;
 mod out;
+mod request_spelling;
 mod rest;
 mod unread;
 mod used_seed;

@@ -1,9 +1,11 @@
-#![tactic(auto, unfolding(wire_ids::specs::Forms::named, wire_ids::specs::Forms::both))]
+#![tactic(auto, // A record is spelled field by field.
+unfolding(wire_ids::specs::Forms::named, wire_ids::specs::Forms::both), // one after another
+using(std::proofs::Common::append_assoc))]
 
-ghost use Rattle.std.specs.Prelude.{◌≡◌, OnOk};
+ghost use Rattle.std.specs.Prelude.{◌≡◌, ◌++◌, OnOk};
 ghost use Rattle.wire_ids.specs.Forms.{exactly, optional};
 ghost use Rattle.entries.specs.Names.{eui, dev_addr, moment, radio, session_keys, sender, peer};
-ghost use Rattle.entries.specs.Reads.{Reads, Writes};
+ghost use Rattle.entries.specs.Reads.{Reads};
 
 use crate::out::{put, put_net, put_sixteen, put_u8, put_u32, put_u64};
 use crate::rest::Rest;
@@ -23,7 +25,7 @@ fn cf_list_option_at(rest: &mut Rest) -> Result<Option<[u8; 16]>, Unread>
 
 #[tactic(auto, unfolding(wire_ids::specs::Forms::optional, wire_ids::specs::Forms::sum))]
 fn put_cf_list_option(out: &mut Vec<u8>, value: &Option<[u8; 16]>) -> Result<(), Memory>
-    ensures spelled { Writes result out.old.items out.new.items ((optional (exactly 16)).spell value.now) }
+    ensures spelled { OnOk result (out.new.items ≡ out.old.items ++ (optional (exactly 16)).spell value.now) }
     ensures fits { OnOk result ((optional (exactly 16)).Fits value.now) }
 {
     match value {
@@ -42,7 +44,7 @@ pub(crate) fn eui_at(rest: &mut Rest) -> Result<Eui, Unread>
 }
 
 pub(crate) fn put_eui(out: &mut Vec<u8>, value: &Eui) -> Result<(), Memory>
-    ensures spelled { Writes result out.old.items out.new.items (eui.spell value.now) }
+    ensures spelled { OnOk result (out.new.items ≡ out.old.items ++ eui.spell value.now) }
     ensures fits { OnOk result (eui.Fits value.now) }
 {
     put_u64(out, value.0)
@@ -55,7 +57,7 @@ pub(crate) fn dev_addr_at(rest: &mut Rest) -> Result<DevAddr, Unread>
 }
 
 pub(crate) fn put_dev_addr(out: &mut Vec<u8>, value: &DevAddr) -> Result<(), Memory>
-    ensures spelled { Writes result out.old.items out.new.items (dev_addr.spell value.now) }
+    ensures spelled { OnOk result (out.new.items ≡ out.old.items ++ dev_addr.spell value.now) }
     ensures fits { OnOk result (dev_addr.Fits value.now) }
 {
     put_u32(out, value.0)
@@ -68,7 +70,7 @@ pub(crate) fn moment_at(rest: &mut Rest) -> Result<Moment, Unread>
 }
 
 pub(crate) fn put_moment(out: &mut Vec<u8>, value: &Moment) -> Result<(), Memory>
-    ensures spelled { Writes result out.old.items out.new.items (moment.spell value.now) }
+    ensures spelled { OnOk result (out.new.items ≡ out.old.items ++ moment.spell value.now) }
     ensures fits { OnOk result (moment.Fits value.now) }
 {
     put_u64(out, value.0)
@@ -84,7 +86,7 @@ pub(crate) fn radio_at(rest: &mut Rest) -> Result<Radio, Unread>
 }
 
 pub(crate) fn put_radio(out: &mut Vec<u8>, value: &Radio) -> Result<(), Memory>
-    ensures spelled { Writes result out.old.items out.new.items (radio.spell value.now) }
+    ensures spelled { OnOk result (out.new.items ≡ out.old.items ++ radio.spell value.now) }
     ensures fits { OnOk result (radio.Fits value.now) }
 {
     put_u8(out, value.dl)?;
@@ -102,7 +104,7 @@ pub(crate) fn session_keys_at(rest: &mut Rest) -> Result<SessionKeys, Unread>
 }
 
 pub(crate) fn put_session_keys(out: &mut Vec<u8>, value: &SessionKeys) -> Result<(), Memory>
-    ensures spelled { Writes result out.old.items out.new.items (session_keys.spell value.now) }
+    ensures spelled { OnOk result (out.new.items ≡ out.old.items ++ session_keys.spell value.now) }
     ensures fits { OnOk result (session_keys.Fits value.now) }
 {
     put_sixteen(out, &value.f)?;
@@ -123,7 +125,7 @@ pub(crate) fn sender_at(rest: &mut Rest) -> Result<Sender, Unread>
 
 #[tactic(auto, unfolding(crate::specs::Names::sender, wire_ids::specs::Forms::sum))]
 pub(crate) fn put_sender(out: &mut Vec<u8>, value: &Sender) -> Result<(), Memory>
-    ensures spelled { Writes result out.old.items out.new.items (sender.spell value.now) }
+    ensures spelled { OnOk result (out.new.items ≡ out.old.items ++ sender.spell value.now) }
     ensures fits { OnOk result (sender.Fits value.now) }
 {
     match value {
@@ -151,7 +153,7 @@ pub(crate) fn peer_at(rest: &mut Rest) -> Result<PeerId, Unread>
 
 #[tactic(auto, unfolding(crate::specs::Names::peer, wire_ids::specs::Forms::sum))]
 pub(crate) fn put_peer(out: &mut Vec<u8>, value: &PeerId) -> Result<(), Memory>
-    ensures spelled { Writes result out.old.items out.new.items (peer.spell value.now) }
+    ensures spelled { OnOk result (out.new.items ≡ out.old.items ++ peer.spell value.now) }
     ensures fits { OnOk result (peer.Fits value.now) }
 {
     match value {

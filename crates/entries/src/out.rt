@@ -1,19 +1,18 @@
-ghost use Rattle.std.specs.Prelude.{◌≡◌, ◌<◌, ◌^◌, ◌++◌};
+ghost use Rattle.std.specs.Prelude.{◌≡◌, ◌<◌, ◌^◌, ◌++◌, OnOk};
 ghost use Rattle.wire_ids.specs.Forms.{u8 as byte, u16 as two, u24 as three, u32 as four};
 ghost use Rattle.wire_ids.specs.Forms.{u64 as eight, exactly, flag, long, short};
-ghost use Rattle.entries.specs.Reads.{Writes};
 
 use wire_ids::{LongText, Memory, NetId, Nonce24, ShortText};
 
 pub(crate) fn put(out: &mut Vec<u8>, bytes: &[u8]) -> Result<(), Memory>
-    ensures { Writes result out.old.items out.new.items bytes.now }
+    ensures { OnOk result (out.new.items ≡ out.old.items ++ bytes.now) }
 {
     Ok(out.extend_from_slice(bytes)?)
 }
 
 #[tactic(auto, unfolding(wire_ids::specs::Forms::u8))]
 pub(crate) fn put_u8(out: &mut Vec<u8>, value: u8) -> Result<(), Memory>
-    ensures spelled { Writes result out.old.items out.new.items (byte.spell value) }
+    ensures spelled { OnOk result (out.new.items ≡ out.old.items ++ byte.spell value) }
     ensures fits { byte.Fits value }
 {
     put(out, &[value])
@@ -21,7 +20,7 @@ pub(crate) fn put_u8(out: &mut Vec<u8>, value: u8) -> Result<(), Memory>
 
 #[tactic(auto, unfolding(wire_ids::specs::Forms::u16))]
 pub(crate) fn put_u16(out: &mut Vec<u8>, value: u16) -> Result<(), Memory>
-    ensures spelled { Writes result out.old.items out.new.items (two.spell value) }
+    ensures spelled { OnOk result (out.new.items ≡ out.old.items ++ two.spell value) }
     ensures fits { two.Fits value }
 {
     put(out, &value.to_be_bytes())
@@ -29,7 +28,7 @@ pub(crate) fn put_u16(out: &mut Vec<u8>, value: u16) -> Result<(), Memory>
 
 #[tactic(auto, unfolding(wire_ids::specs::Forms::u32))]
 pub(crate) fn put_u32(out: &mut Vec<u8>, value: u32) -> Result<(), Memory>
-    ensures spelled { Writes result out.old.items out.new.items (four.spell value) }
+    ensures spelled { OnOk result (out.new.items ≡ out.old.items ++ four.spell value) }
     ensures fits { four.Fits value }
 {
     put(out, &value.to_be_bytes())
@@ -37,7 +36,7 @@ pub(crate) fn put_u32(out: &mut Vec<u8>, value: u32) -> Result<(), Memory>
 
 #[tactic(auto, unfolding(wire_ids::specs::Forms::u64))]
 pub(crate) fn put_u64(out: &mut Vec<u8>, value: u64) -> Result<(), Memory>
-    ensures spelled { Writes result out.old.items out.new.items (eight.spell value) }
+    ensures spelled { OnOk result (out.new.items ≡ out.old.items ++ eight.spell value) }
     ensures fits { eight.Fits value }
 {
     put(out, &value.to_be_bytes())
@@ -46,7 +45,8 @@ pub(crate) fn put_u64(out: &mut Vec<u8>, value: u64) -> Result<(), Memory>
 #[tactic(auto, unfolding(wire_ids::specs::Forms::u24))]
 fn put_u24(out: &mut Vec<u8>, n: u32) -> Result<(), Memory>
     requires { n < 2 ^ 24 }
-    ensures { Writes result out.old.items out.new.items (three.spell n) }
+    ensures spelled { OnOk result (out.new.items ≡ out.old.items ++ three.spell n) }
+    ensures fits { three.Fits n }
 {
     put(
         out,
@@ -60,7 +60,7 @@ fn put_u24(out: &mut Vec<u8>, n: u32) -> Result<(), Memory>
 
 #[tactic(auto, unfolding(wire_ids::specs::Forms::u24))]
 pub(crate) fn put_net(out: &mut Vec<u8>, value: NetId) -> Result<(), Memory>
-    ensures spelled { Writes result out.old.items out.new.items (three.spell value) }
+    ensures spelled { OnOk result (out.new.items ≡ out.old.items ++ three.spell value) }
     ensures fits { three.Fits value }
 {
     put_u24(out, value.get())
@@ -68,7 +68,7 @@ pub(crate) fn put_net(out: &mut Vec<u8>, value: NetId) -> Result<(), Memory>
 
 #[tactic(auto, unfolding(wire_ids::specs::Forms::u24))]
 pub(crate) fn put_join_nonce(out: &mut Vec<u8>, value: Nonce24) -> Result<(), Memory>
-    ensures spelled { Writes result out.old.items out.new.items (three.spell value) }
+    ensures spelled { OnOk result (out.new.items ≡ out.old.items ++ three.spell value) }
     ensures fits { three.Fits value }
 {
     put_u24(out, value.get())
@@ -76,7 +76,7 @@ pub(crate) fn put_join_nonce(out: &mut Vec<u8>, value: Nonce24) -> Result<(), Me
 
 #[tactic(auto, unfolding(wire_ids::specs::Forms::flag, wire_ids::specs::Forms::sum))]
 pub(crate) fn put_flag(out: &mut Vec<u8>, value: bool) -> Result<(), Memory>
-    ensures spelled { Writes result out.old.items out.new.items (flag.spell value) }
+    ensures spelled { OnOk result (out.new.items ≡ out.old.items ++ flag.spell value) }
     ensures fits { flag.Fits value }
 {
     put(out, &[u8::from(value)])
@@ -84,7 +84,7 @@ pub(crate) fn put_flag(out: &mut Vec<u8>, value: bool) -> Result<(), Memory>
 
 #[tactic(auto, unfolding(wire_ids::specs::Forms::exactly))]
 pub(crate) fn put_sixteen(out: &mut Vec<u8>, value: &[u8; 16]) -> Result<(), Memory>
-    ensures spelled { Writes result out.old.items out.new.items ((exactly 16).spell value.now) }
+    ensures spelled { OnOk result (out.new.items ≡ out.old.items ++ (exactly 16).spell value.now) }
     ensures fits { (exactly 16).Fits value.now }
 {
     put(out, value)
@@ -92,7 +92,7 @@ pub(crate) fn put_sixteen(out: &mut Vec<u8>, value: &[u8; 16]) -> Result<(), Mem
 
 #[tactic(auto, unfolding(wire_ids::specs::Forms::short), using(std::proofs::Common::append_assoc))]
 pub(crate) fn put_short(out: &mut Vec<u8>, value: &ShortText) -> Result<(), Memory>
-    ensures spelled { Writes result out.old.items out.new.items (short.spell value.now) }
+    ensures spelled { OnOk result (out.new.items ≡ out.old.items ++ short.spell value.now) }
     ensures fits { short.Fits value.now }
 {
     put_u16(out, value.len() as u16)?;
@@ -101,7 +101,7 @@ pub(crate) fn put_short(out: &mut Vec<u8>, value: &ShortText) -> Result<(), Memo
 
 #[tactic(auto, unfolding(wire_ids::specs::Forms::long), using(std::proofs::Common::append_assoc))]
 pub(crate) fn put_long(out: &mut Vec<u8>, value: &LongText) -> Result<(), Memory>
-    ensures spelled { Writes result out.old.items out.new.items (long.spell value.now) }
+    ensures spelled { OnOk result (out.new.items ≡ out.old.items ++ long.spell value.now) }
     ensures fits { long.Fits value.now }
 {
     put_u32(out, value.len() as u32)?;

@@ -1,8 +1,9 @@
 -- Each entry has one spelling.
 use Rattle.std.proofs.Common.{◌≡◌, ℕ, eqb, List, [], ◌∷◌, ◌++◌, Some, None, refl, sym, ap, subst, ◌∙◌, append_assoc}
 use Rattle.std.proofs.lemmas.List.{append-nil}
-use Rattle.wire_ids.specs.Forms.{AreBytes, Read, IsForm, Takes, and_then, u32, long, both}
+use Rattle.wire_ids.specs.Forms.{AreBytes, Read, IsForm, and_then, u8, u32, long, both}
 use Rattle.wire_ids.proofs.Forms.{Taken, then_some, some_is, by_test, taken_arm, taken_bare, arm_again, u8_again, u8_front, form-both, form-named, form-u8, form-u16, form-u24, form-u32, form-optional, form-short, form-long}
+use Rattle.wire_ids.specs.declared.moment.Moment.{Moment}
 use Rattle.entries.specs.declared.entry.Entry.{Entry}
 use Rattle.entries.specs.declared.entry.Event.{Event}
 use Rattle.entries.specs.declared.entry.Event.TheVariants.{Opened, Tables, Kept, Asked, Told, Suspend, Resume}
@@ -98,6 +99,31 @@ event_takes tag bytes e rest is =
 
 -- ---- entries
 
+abbrev fields_read : ℕ → Moment → List ℕ → Read Entry
+fields_read tag at fields = and_then (event_at tag fields) (λ event rest. Some (record { moment = at; event = event }, rest))
+
+abbrev moment_read : ℕ → List ℕ → Read Entry
+moment_read tag more = and_then (moment.read more) (fields_read tag)
+
+-- what stands behind the tag
+parts_of : (at : Moment) (event : Event) (more fields rest : List ℕ) → more ≡ moment.spell at ++ fields → fields ≡ event_fields event ++ rest → more ≡ (moment.spell at ++ event_fields event) ++ rest
+parts_of at event more fields rest m f = m ∙ ap (λ (w : List ℕ). moment.spell at ++ w) f ∙ sym (append_assoc (moment.spell at) (event_fields event) rest)
+
+takes_fields : (tag : ℕ) (at : Moment) (more fields : List ℕ) (e : Entry) (rest : List ℕ) → more ≡ moment.spell at ++ fields → moment.Fits at → AreBytes fields → fields_read tag at fields ≡ Some (e, rest)
+    → (tag ≡ event_tag e.event) × (more ≡ (moment.spell e.moment ++ event_fields e.event) ++ rest) × AreBytes rest × (moment.Fits e.moment × FitsEvent e.event)
+takes_fields tag at more fields e rest m fits is same =
+    let x = then_some (event_at tag fields) (λ event left. Some (record { moment = at; event = event }, left)) (e, rest) same in
+    let t = event_takes tag fields x.0 x.1 is x.2 in
+    subst (λ (q : Entry × List ℕ). (tag ≡ event_tag q.0.event) × (more ≡ (moment.spell q.0.moment ++ event_fields q.0.event) ++ q.1) × AreBytes q.1 × (moment.Fits q.0.moment × FitsEvent q.0.event))
+    (some_is (record { moment = at; event = x.0 }, x.1) (e, rest) x.3) (t.named_by, parts_of at x.0 more fields x.1 m t.parts, t.left, (fits, t.fits))
+
+takes_moment : (tag : ℕ) (more : List ℕ) (e : Entry) (rest : List ℕ) → AreBytes more → moment_read tag more ≡ Some (e, rest)
+    → (tag ≡ event_tag e.event) × (more ≡ (moment.spell e.moment ++ event_fields e.event) ++ rest) × AreBytes rest × (moment.Fits e.moment × FitsEvent e.event)
+takes_moment tag more e rest is same =
+    let x = then_some (moment.read more) (fields_read tag) (e, rest) same in
+    let t = form-moment.takes more x.0 x.1 is x.2 in
+    takes_fields tag x.0 more x.1 e rest t.parts t.fits t.left x.3
+
 pub form-entry : IsForm entry
 unfolding entry
 form-entry = record {
@@ -105,17 +131,10 @@ form-entry = record {
       let tag = u8_again (event_tag e.event) ((moment.spell e.moment ++ event_fields e.event) ++ rest) in
       rw (tag, append_assoc (moment.spell e.moment) (event_fields e.event) rest, form-moment.again e.moment (event_fields e.event ++ rest) fits.0, event_again e.event rest fits.1) refl;
   takes = λ bytes e rest is same.
-      let a = then_some _ (λ tag more. and_then (moment.read more) (λ at fields. and_then (event_at tag fields) (λ event left. Some (record { moment = at; event = event }, left)))) (e, rest) same in
-      let b = then_some (moment.read a.1) (λ at fields. and_then (event_at a.0 fields) (λ event left. Some (record { moment = at; event = event }, left))) (e, rest) a.3 in
-      let c = then_some (event_at a.0 b.1) (λ event left. Some (record { moment = b.0; event = event }, left)) (e, rest) b.3 in
-      let ta = form-u8.takes bytes a.0 a.1 is a.2 in
-      let tb = form-moment.takes a.1 b.0 b.1 ta.left b.2 in
-      let tc = event_takes a.0 b.1 c.0 c.1 tb.left c.2 in
-      subst (λ (q : Entry × List ℕ). Takes entry bytes q.0 q.1) (some_is (record { moment = b.0; event = c.0 }, c.1) (e, rest) c.3) (record {
-        parts = ta.parts ∙ u8_front a.0 a.1 ∙ ap (λ (w : List ℕ). a.0 ∷ w) (tb.parts ∙ ap (λ (w : List ℕ). moment.spell b.0 ++ w) tc.parts ∙ sym (append_assoc (moment.spell b.0) (event_fields c.0) c.1)) ∙ ap (λ (t : ℕ). t ∷ ((moment.spell b.0 ++ event_fields c.0) ++ c.1)) tc.named_by;
-        left = tc.left;
-        fits = (tb.fits, tc.fits);
-      });
+      let x = then_some (u8.read bytes) moment_read (e, rest) same in
+      let t = form-u8.takes bytes x.0 x.1 is x.2 in
+      let k = takes_moment x.0 x.1 e rest t.left x.3 in
+      record { parts = t.parts ∙ u8_front x.0 x.1 ∙ ap (λ (w : List ℕ). x.0 ∷ w) k.1 ∙ ap (λ (n : ℕ). n ∷ ((moment.spell e.moment ++ event_fields e.event) ++ rest)) k.0; left = k.2; fits = k.3 };
 }
 
 -- ---- whole texts

@@ -37,7 +37,8 @@ fn eui_option_at(rest: &mut Rest) -> Result<Option<Eui>, Unread>
 
 #[tactic(auto, unfolding(wire_ids::specs::Forms::optional, wire_ids::specs::Forms::sum))]
 fn put_eui_option(out: &mut Vec<u8>, value: &Option<Eui>) -> Result<(), Memory>
-    ensures spelled { OnOk result (out.new.items ≡ out.old.items ++ (optional eui).spell value.now) }
+    ensures spelled { OnOk result
+        (out.new.items ≡ out.old.items ++ (optional eui).spell value.now) }
     ensures fits { OnOk result ((optional eui).Fits value.now) }
 {
     match value {
@@ -62,7 +63,8 @@ fn dev_addr_option_at(rest: &mut Rest) -> Result<Option<DevAddr>, Unread>
 
 #[tactic(auto, unfolding(wire_ids::specs::Forms::optional, wire_ids::specs::Forms::sum))]
 fn put_dev_addr_option(out: &mut Vec<u8>, value: &Option<DevAddr>) -> Result<(), Memory>
-    ensures spelled { OnOk result (out.new.items ≡ out.old.items ++ (optional dev_addr).spell value.now) }
+    ensures spelled { OnOk result
+        (out.new.items ≡ out.old.items ++ (optional dev_addr).spell value.now) }
     ensures fits { OnOk result ((optional dev_addr).Fits value.now) }
 {
     match value {
@@ -87,7 +89,8 @@ fn radio_option_at(rest: &mut Rest) -> Result<Option<Radio>, Unread>
 
 #[tactic(auto, unfolding(wire_ids::specs::Forms::optional, wire_ids::specs::Forms::sum))]
 fn put_radio_option(out: &mut Vec<u8>, value: &Option<Radio>) -> Result<(), Memory>
-    ensures spelled { OnOk result (out.new.items ≡ out.old.items ++ (optional radio).spell value.now) }
+    ensures spelled { OnOk result
+        (out.new.items ≡ out.old.items ++ (optional radio).spell value.now) }
     ensures fits { OnOk result ((optional radio).Fits value.now) }
 {
     match value {
@@ -112,7 +115,8 @@ fn rejoin_count_option_at(rest: &mut Rest) -> Result<Option<RejoinCount>, Unread
 
 #[tactic(auto, unfolding(wire_ids::specs::Forms::optional, wire_ids::specs::Forms::sum))]
 fn put_rejoin_count_option(out: &mut Vec<u8>, value: &Option<RejoinCount>) -> Result<(), Memory>
-    ensures spelled { OnOk result (out.new.items ≡ out.old.items ++ (optional rejoin_count).spell value.now) }
+    ensures spelled { OnOk result
+        (out.new.items ≡ out.old.items ++ (optional rejoin_count).spell value.now) }
     ensures fits { OnOk result ((optional rejoin_count).Fits value.now) }
 {
     match value {
@@ -137,7 +141,8 @@ fn number_option_at(rest: &mut Rest) -> Result<Option<u64>, Unread>
 
 #[tactic(auto, unfolding(wire_ids::specs::Forms::optional, wire_ids::specs::Forms::sum))]
 fn put_number_option(out: &mut Vec<u8>, value: &Option<u64>) -> Result<(), Memory>
-    ensures spelled { OnOk result (out.new.items ≡ out.old.items ++ (optional u64).spell value.now) }
+    ensures spelled { OnOk result
+        (out.new.items ≡ out.old.items ++ (optional u64).spell value.now) }
     ensures fits { OnOk result ((optional u64).Fits value.now) }
 {
     match value {

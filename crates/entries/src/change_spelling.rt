@@ -71,7 +71,8 @@ fn own_context_option_at(rest: &mut Rest) -> Result<Option<OwnContext>, Unread>
 
 #[tactic(auto, unfolding(wire_ids::specs::Forms::optional, wire_ids::specs::Forms::sum))]
 fn put_own_context_option(out: &mut Vec<u8>, value: &Option<OwnContext>) -> Result<(), Memory>
-    ensures spelled { OnOk result (out.new.items ≡ out.old.items ++ (optional own_context).spell value.now) }
+    ensures spelled { OnOk result
+        (out.new.items ≡ out.old.items ++ (optional own_context).spell value.now) }
     ensures fits { OnOk result ((optional own_context).Fits value.now) }
 {
     match value {
@@ -99,7 +100,8 @@ pub(crate) fn put_used_seed_option(
     out: &mut Vec<u8>,
     value: &Option<UsedSeed>,
 ) -> Result<(), Memory>
-    ensures spelled { OnOk result (out.new.items ≡ out.old.items ++ (optional used_seed).spell value.now) }
+    ensures spelled { OnOk result
+        (out.new.items ≡ out.old.items ++ (optional used_seed).spell value.now) }
     ensures fits { OnOk result ((optional used_seed).Fits value.now) }
 {
     match value {
@@ -282,7 +284,8 @@ pub(crate) fn passive_uplink_at(alloc: Global, rest: &mut Rest) -> Result<Passiv
 }
 
 pub(crate) fn put_passive_uplink(out: &mut Vec<u8>, value: &PassiveUplink) -> Result<(), Memory>
-    ensures spelled { OnOk result (out.new.items ≡ out.old.items ++ passive_uplink.spell value.now) }
+    ensures spelled { OnOk result
+        (out.new.items ≡ out.old.items ++ passive_uplink.spell value.now) }
     ensures fits { OnOk result (passive_uplink.Fits value.now) }
 {
     put_uplink(out, &value.up)?;

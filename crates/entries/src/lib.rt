@@ -12,6 +12,8 @@ mod name_spelling;
 mod out;
 mod request_spelling;
 mod rest;
+#[cfg(test)]
+mod tests;
 mod unread;
 mod used_seed;
 

@@ -25,7 +25,8 @@ fn cf_list_option_at(rest: &mut Rest) -> Result<Option<[u8; 16]>, Unread>
 
 #[tactic(auto, unfolding(wire_ids::specs::Forms::optional, wire_ids::specs::Forms::sum))]
 fn put_cf_list_option(out: &mut Vec<u8>, value: &Option<[u8; 16]>) -> Result<(), Memory>
-    ensures spelled { OnOk result (out.new.items ≡ out.old.items ++ (optional (exactly 16)).spell value.now) }
+    ensures spelled { OnOk result
+        (out.new.items ≡ out.old.items ++ (optional (exactly 16)).spell value.now) }
     ensures fits { OnOk result ((optional (exactly 16)).Fits value.now) }
 {
     match value {

@@ -65,7 +65,8 @@ pub(crate) fn put_lending(
     request: &Request,
     value: &Lending,
 ) -> Result<(), Memory>
-    ensures spelled { OnOk result (out.new.items ≡ out.old.items ++ lending.spell (request.now, value.now)) }
+    ensures spelled { OnOk result
+        (out.new.items ≡ out.old.items ++ lending.spell (request.now, value.now)) }
     ensures fits { OnOk result (lending.Fits (request.now, value.now)) }
 {
     put_used_seed_option(out, &value.used)?;

@@ -1,5 +1,6 @@
 ghost use Rattle.std.specs.Prelude.{◌≡◌, ◌+◌, ◌≤◌, ◌<◌, List, ℕ, [], ◌∷◌, ◌++◌, Option, Some};
-ghost use Rattle.std.specs.Prelude.{◌↔◌, length, option_map, vec_len, vec_capacity, IfOk, IsErr, OnOk};
+ghost use Rattle.std.specs.Prelude.{◌↔◌, length, option_map, vec_len, vec_capacity, IfOk, IsErr};
+ghost use Rattle.std.specs.Prelude.{OnOk};
 ghost use Rattle.std.specs.VecDeque.{deque_len};
 ghost use Rattle.wire_ids.specs.Causes.{HasCause};
 ghost use Rattle.disk_model.specs.Connections.{Gives, IsOut, TakesBack, out_after};

@@ -193,7 +193,8 @@ impl Disk for MemoryDisk {
     ghost since_is_now = { λ d. since_is_now (disk_first d) (disk_calls d) };
 
     fn len(&mut self) -> Result<u64, Failed>
-        ensures length { IfOk result (λ n. WhereTold (Some (disk_content self.old)) (λ c. n ≡ length c)) }
+        ensures length { IfOk result
+            (λ n. WhereTold (Some (disk_content self.old)) (λ c. n ≡ length c)) }
         ensures seen { Some (disk_content self.new) ≡ Some (disk_content self.old) }
         ensures crash { NoneNew (disk_images self.old) (disk_images self.new) }
         ensures time { Elapses (disk_moment self.old) (disk_moment self.new)

@@ -14,7 +14,7 @@ pub type Payload = ArrayVec<u8, 242>;
 pub type ItemQueue = ArrayVec<Item, 8>;
 
 /// Where the session keys of a context come from.
-#[derive(Clone, Copy, Debug, PartialEq, Eq)]
+#[derive(Clone, Copy, PartialEq, Eq)]
 pub enum Origin {
     /// They are derived from this seed under the device's NwkKey.
     Seeded(Seed),

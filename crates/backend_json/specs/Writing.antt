@@ -28,7 +28,7 @@ value_data (value.Key key) = key_data key.now
 value_data (value.Result code words said) = result_data code (words.now ++ said.now)
 
 abbrev pub field_now : {V : Type 0} → (V → Data) → Member V → Field
-field_now json m = field m.name.now (option_map json m.value.now)
+field_now json m = field m.0.now (option_map json m.1.now)
 
 abbrev pub members_now : Written → AnswerMembers
 members_now m = record {

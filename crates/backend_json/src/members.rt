@@ -42,62 +42,20 @@ impl<'a> Members<'a> {
         ensures { map (field_now value_data) result ≡ named (members_now self.now) }
     {
         [
-            Member {
-                name: "AppSKey",
-                value: &self.app_s_key,
-            },
-            Member {
-                name: "DevEUI",
-                value: &self.dev_eui,
-            },
-            Member {
-                name: "FNwkSIntKey",
-                value: &self.f_nwk_s_int_key,
-            },
-            Member {
-                name: "Lifetime",
-                value: &self.lifetime,
-            },
-            Member {
-                name: "MessageType",
-                value: &self.message_type,
-            },
-            Member {
-                name: "NwkSEncKey",
-                value: &self.nwk_s_enc_key,
-            },
-            Member {
-                name: "PHYPayload",
-                value: &self.phy_payload,
-            },
-            Member {
-                name: "ProtocolVersion",
-                value: &self.protocol_version,
-            },
-            Member {
-                name: "ReceiverID",
-                value: &self.receiver_id,
-            },
-            Member {
-                name: "Result",
-                value: &self.result,
-            },
-            Member {
-                name: "SNwkSIntKey",
-                value: &self.s_nwk_s_int_key,
-            },
-            Member {
-                name: "SenderID",
-                value: &self.sender_id,
-            },
-            Member {
-                name: "SessionKeyID",
-                value: &self.session_key_id,
-            },
-            Member {
-                name: "TransactionID",
-                value: &self.transaction_id,
-            },
+            Member("AppSKey", &self.app_s_key),
+            Member("DevEUI", &self.dev_eui),
+            Member("FNwkSIntKey", &self.f_nwk_s_int_key),
+            Member("Lifetime", &self.lifetime),
+            Member("MessageType", &self.message_type),
+            Member("NwkSEncKey", &self.nwk_s_enc_key),
+            Member("PHYPayload", &self.phy_payload),
+            Member("ProtocolVersion", &self.protocol_version),
+            Member("ReceiverID", &self.receiver_id),
+            Member("Result", &self.result),
+            Member("SNwkSIntKey", &self.s_nwk_s_int_key),
+            Member("SenderID", &self.sender_id),
+            Member("SessionKeyID", &self.session_key_id),
+            Member("TransactionID", &self.transaction_id),
         ]
     }
 }

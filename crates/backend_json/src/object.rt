@@ -19,12 +19,9 @@ pub(crate) trait Written {
         ensures { OnOk result (out.new.items ≡ out.old.items ++ compact_text (json self.now)) };
 }
 
-/// A member of an object, where it is there.
+/// A member of an object: its name, and its value where it is there.
 #[derive(Clone, Copy)]
-pub(crate) struct Member<'a, V> {
-    pub name: &'static str,
-    pub value: &'a Option<V>,
-}
+pub(crate) struct Member<'a, V>(pub &'static str, pub &'a Option<V>);
 
 // Writes a comma where a member stands before.
 fn put_comma(out: &mut Vec<u8>, later: bool) -> Result<(), AllocError>
@@ -57,11 +54,11 @@ fn put_member<V: Written>(
     ensures { IfOk result (λ after.
         GoesOn (field_now V.json member.now) out.old.items later out.new.items after) }
 {
-    let Some(value) = member.value else {
+    let Some(value) = member.1 else {
         return Ok(later);
     };
     put_comma(out, later)?;
-    put_entry(out, member.name, value)?;
+    put_entry(out, member.0, value)?;
     Ok(true)
 }
 

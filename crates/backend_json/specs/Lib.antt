@@ -1,7 +1,11 @@
-pub mod Digits
+pub mod Types
+pub mod Forms
 pub mod Members
 pub mod Requests
 pub mod Messages
 pub mod Refusals
+pub mod Objects
 pub mod Answers
-pub mod Written
+pub mod Writing
+pub mod Order
+pub mod Keys

@@ -1,5 +1,5 @@
 -- The refusals, and the ResultCodes of the Backend Interfaces (TS002, Messages and Payloads).
-use Rattle.std.specs.Prelude.{ℕ, List, codes}
+use Rattle.std.specs.Prelude.{ℕ, List, [], ◌++◌, Option, Some, None, codes}
 use Rattle.backend_json.specs.declared.refusal.Refusal.{Refusal}
 use Rattle.backend_json.specs.declared.refusal.Refusal.TheVariants as refusal
 use Rattle.backend_json.specs.declared.refusal.ResultCode.{ResultCode}
@@ -18,13 +18,18 @@ code_text JoinReqFailed = codes "JoinReqFailed"
 code_text MicFailed = codes "MICFailed"
 code_text Other = codes "Other"
 
+-- the words of the Description begin it; what a peer said may complete it
 pub record Row : Type 0 where
-  pub number : ℕ
+  pub number : Option ℕ
   pub code : ResultCode
-  pub description : List ℕ
+  pub words : List ℕ
 
 abbrev pub row : ℕ → ResultCode → List ℕ → Row
-row number code description = record { number = number; code = code; description = description }
+row number code words = record { number = Some number; code = code; words = words }
+
+-- what the peer that was asked comes to has no number in the order
+abbrev pub peer_row : ResultCode → List ℕ → Row
+peer_row code words = record { number = None; code = code; words = words }
 
 -- the table of the refusals, in their order
 unfoldable pub row_of : Refusal → Row
@@ -42,12 +47,25 @@ row_of refusal.Mic = row 19 MicFailed (codes "mic")
 row_of refusal.Counter = row 20 JoinReqFailed (codes "counter")
 row_of refusal.Spent = row 21 JoinReqFailed (codes "spent")
 row_of refusal.Session = row 27 Other (codes "session")
+row_of refusal.PeerLate = peer_row Other (codes "peer late")
+row_of refusal.PeerFailed = peer_row Other (codes "peer failed")
+row_of refusal.PeerAnswer = peer_row Other (codes "peer answer")
+row_of (refusal.PeerSaid code) = peer_row Other (codes "peer said ")
 
-abbrev pub number_of : Refusal → ℕ
+abbrev pub number_of : Refusal → Option ℕ
 number_of refusal = (row_of refusal).number
 
 abbrev pub code_of : Refusal → ResultCode
 code_of refusal = (row_of refusal).code
 
+abbrev pub words_of : Refusal → List ℕ
+words_of refusal = (row_of refusal).words
+
+-- the ResultCode that a peer said
+abbrev pub said_of : Refusal → List ℕ
+said_of (refusal.PeerSaid code) = code
+said_of refusal = []
+
+-- the Description
 abbrev pub description_of : Refusal → List ℕ
-description_of refusal = (row_of refusal).description
+description_of refusal = words_of refusal ++ said_of refusal

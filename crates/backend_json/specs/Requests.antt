@@ -1,44 +1,60 @@
 -- The messages that are read, their members in the order in which they are looked at (TS002, Messages and Payloads).
-use Rattle.std.specs.Prelude.{◌^◌, ℕ, List, codes, Result, Ok, if◌then◌else◌}
-use Rattle.std.specs.Str.{bytes_eq}
+use Rattle.std.specs.Prelude.{◌^◌, ℕ, List, Option, Some, None, Result, Ok}
 use Rattle.serde_json.specs.Data.{Data}
+use Rattle.serde_json.specs.Find.{as_str}
+use Rattle.wire_ids.specs.declared.radio.Radio.{Radio}
 use Rattle.backend_json.specs.declared.head.Head.{Head}
+use Rattle.backend_json.specs.declared.member.Key.{Key}
+use Rattle.backend_json.specs.declared.member.Key.TheVariants as member
+use Rattle.backend_json.specs.declared.message_type.MessageType.{MessageType}
+use Rattle.backend_json.specs.declared.message_type.MessageType.TheVariants as kind
 use Rattle.backend_json.specs.declared.request.JoinRequest.{JoinRequest}
 use Rattle.backend_json.specs.declared.request.AppSKeyRequest.{AppSKeyRequest}
 use Rattle.backend_json.specs.declared.request.Request.{Request}
 use Rattle.backend_json.specs.declared.request.Request.TheVariants.{JoinReq, AppSKeyReq, Unknown}
-use Rattle.backend_json.specs.Members.{need, ◌>>=◌, text_of, whole_of, eui_of, dev_addr_of, byte_of, bytes_of, sender_of, peer_of, session_key_id_of, cf_list_of}
+use Rattle.backend_json.specs.Forms.{byte_form, bytes_form, cf_list_form, dev_addr_form, eui_form, peer_form, sender_form, session_form, type_form, whole_form}
+use Rattle.backend_json.specs.Members.{◌>>=◌, needed, optional}
 
 -- the common members
-unfoldable pub head_in : Data → Result Head (List ℕ)
+unfoldable pub head_in : Data → Result Head Key
 head_in d = do
-  protocol_version ← need (codes "ProtocolVersion") (text_of (codes "ProtocolVersion") d)
-  sender ← need (codes "SenderID") (sender_of (codes "SenderID") d)
-  receiver ← need (codes "ReceiverID") (peer_of (codes "ReceiverID") d)
-  transaction_id ← need (codes "TransactionID") (whole_of (2 ^ 32) (codes "TransactionID") d)
-  message_type ← need (codes "MessageType") (text_of (codes "MessageType") d)
+  protocol_version ← needed as_str member.ProtocolVersion d
+  sender ← needed sender_form member.SenderId d
+  receiver ← needed peer_form member.ReceiverId d
+  transaction_id ← needed (whole_form (2 ^ 32)) member.TransactionId d
+  message_type ← needed type_form member.MessageType d
   Ok (record { protocol_version = protocol_version; sender = sender; receiver = receiver; transaction_id = transaction_id; message_type = message_type })
 
-unfoldable pub join_req_in : Data → Result JoinRequest (List ℕ)
-join_req_in d = do
-  mac_version ← need (codes "MACVersion") (text_of (codes "MACVersion") d)
-  phy_payload ← need (codes "PHYPayload") (bytes_of (codes "PHYPayload") d)
-  dev_eui ← need (codes "DevEUI") (eui_of (codes "DevEUI") d)
-  dev_addr ← need (codes "DevAddr") (dev_addr_of (codes "DevAddr") d)
-  dl_settings ← need (codes "DLSettings") (byte_of (codes "DLSettings") d)
-  rx_delay ← need (codes "RxDelay") (whole_of 16 (codes "RxDelay") d)
-  cf_list ← cf_list_of (codes "CFList") d
-  Ok (record { mac_version = mac_version; phy_payload = phy_payload; dev_eui = dev_eui; dev_addr = dev_addr; dl_settings = dl_settings; rx_delay = rx_delay; cf_list = cf_list })
+-- a CFList without digits is none
+abbrev pub cf_list_given : Option (Option (List ℕ)) → Option (List ℕ)
+cf_list_given None = None
+cf_list_given (Some cf) = cf
 
-unfoldable pub app_s_key_req_in : Data → Result AppSKeyRequest (List ℕ)
+-- the radio parameters
+unfoldable pub radio_in : Data → Result Radio Key
+radio_in d = do
+  dl ← needed byte_form member.DlSettings d
+  rx_delay ← needed (whole_form 16) member.RxDelay d
+  cf ← optional cf_list_form member.CfList d
+  Ok (record { dl = dl; rx_delay = rx_delay; cf = cf_list_given cf })
+
+unfoldable pub join_req_in : Data → Result JoinRequest Key
+join_req_in d = do
+  mac_version ← needed as_str member.MacVersion d
+  phy_payload ← needed bytes_form member.PhyPayload d
+  dev_eui ← needed eui_form member.DevEui d
+  dev_addr ← needed dev_addr_form member.DevAddr d
+  radio ← radio_in d
+  Ok (record { mac_version = mac_version; phy_payload = phy_payload; dev_eui = dev_eui; dev_addr = dev_addr; radio = radio })
+
+unfoldable pub app_s_key_req_in : Data → Result AppSKeyRequest Key
 app_s_key_req_in d = do
-  dev_eui ← need (codes "DevEUI") (eui_of (codes "DevEUI") d)
-  session_key_id ← need (codes "SessionKeyID") (session_key_id_of (codes "SessionKeyID") d)
+  dev_eui ← needed eui_form member.DevEui d
+  session_key_id ← needed session_form member.SessionKeyId d
   Ok (record { dev_eui = dev_eui; session_key_id = session_key_id })
 
 -- of a type that isn't served the common members alone are read
-unfoldable pub request_in : List ℕ → Data → Result Request (List ℕ)
-request_in message_type d =
-    if bytes_eq message_type (codes "JoinReq") then (join_req_in d >>= λ request. Ok (JoinReq request))
-    else if bytes_eq message_type (codes "AppSKeyReq") then (app_s_key_req_in d >>= λ request. Ok (AppSKeyReq request))
-    else Ok Unknown
+unfoldable pub request_in : MessageType → Data → Result Request Key
+request_in kind.JoinReq d = join_req_in d >>= λ request. Ok (JoinReq request)
+request_in kind.AppSKeyReq d = app_s_key_req_in d >>= λ request. Ok (AppSKeyReq request)
+request_in kind.Unknown d = Ok Unknown

@@ -1,53 +1,86 @@
 use crate::{Head, Refusal, SessionKeyId};
+use std::marker::Model;
 use wire_ids::{Eui, Text};
 
-/// An answer to a request.
-#[derive(PartialEq, Eq, Drop)]
-pub struct Answer {
-    /// The request's head, where it is readable.
-    pub head: Option<Head>,
-    pub outcome: Outcome,
+/// An answer to a body.
+#[derive(Drop)]
+pub enum Answer<'a> {
+    /// The body has no readable head, and is refused as no readable message.
+    Headless,
+    /// To a request with this head.
+    Headed { head: Head, outcome: Outcome<'a> },
 }
 
 /// What a request came to.
-#[derive(PartialEq, Eq, Drop)]
-pub enum Outcome {
+#[derive(Drop)]
+pub enum Outcome<'a> {
     Refused(Refusal),
-    JoinAns(JoinAnswer),
-    AppSKeyAns(AppSKeyAnswer),
+    JoinAns(JoinAnswer<'a>),
+    AppSKeyAns(AppSKeyAnswer<'a>),
+}
+
+/// The label of a KEK, as it stands in the tables. Contracts see its bytes.
+#[derive(Drop)]
+pub struct KekLabel<'a> {
+    label: &'a Text,
+}
+
+impl<'a> Model for KekLabel<'a> {
+    ghost use Rattle.std.specs.Prelude.{List, ℕ};
+
+    ghost Value = { List ℕ };
+
+    ghost view = { λ l. l.label.now };
+}
+
+ghost use Rattle.std.specs.Prelude.{◌≡◌};
+
+impl<'a> KekLabel<'a> {
+    pub fn new(label: &'a Text) -> KekLabel<'a>
+        ensures { result ≡ label.now }
+    {
+        KekLabel { label }
+    }
+
+    /// Its bytes.
+    pub fn as_slice(&self) -> &[u8]
+        ensures { result.now ≡ self.now }
+    {
+        self.label.as_slice()
+    }
 }
 
 /// A key under the KEK of this label, wrapped by RFC 3394.
-#[derive(PartialEq, Eq, Drop)]
-pub struct KeyEnvelope {
-    pub kek_label: Text,
+#[derive(Drop)]
+pub struct KeyEnvelope<'a> {
+    pub kek_label: KekLabel<'a>,
     pub aes_key: [u8; 24],
 }
 
-/// The keys of an answer.
-#[derive(PartialEq, Eq, Drop)]
-pub struct AnswerKeys {
-    pub f_nwk_s_int_key: Option<KeyEnvelope>,
-    pub s_nwk_s_int_key: Option<KeyEnvelope>,
-    pub nwk_s_enc_key: Option<KeyEnvelope>,
-    pub app_s_key: Option<KeyEnvelope>,
+/// The keys of a session that an answer carries.
+#[derive(Drop)]
+pub struct AnswerKeys<'a> {
+    pub f_nwk_s_int_key: Option<KeyEnvelope<'a>>,
+    pub s_nwk_s_int_key: Option<KeyEnvelope<'a>>,
+    pub nwk_s_enc_key: Option<KeyEnvelope<'a>>,
+    pub app_s_key: Option<KeyEnvelope<'a>>,
 }
 
 /// The members of a JoinAns of Success.
-#[derive(PartialEq, Eq, Drop)]
-pub struct JoinAnswer {
+#[derive(Drop)]
+pub struct JoinAnswer<'a> {
     /// PHYPayload: the join-accept.
     pub phy_payload: Text,
     /// Lifetime, in seconds.
     pub lifetime: u32,
-    pub keys: AnswerKeys,
+    pub keys: AnswerKeys<'a>,
     pub session_key_id: SessionKeyId,
 }
 
 /// The members of an AppSKeyAns of Success.
-#[derive(PartialEq, Eq, Drop)]
-pub struct AppSKeyAnswer {
+#[derive(Drop)]
+pub struct AppSKeyAnswer<'a> {
     pub dev_eui: Eui,
-    pub keys: AnswerKeys,
+    pub app_s_key: Option<KeyEnvelope<'a>>,
     pub session_key_id: SessionKeyId,
 }

@@ -1,9 +1,9 @@
-ghost use Rattle.std.specs.Prelude.{◌≡◌};
 ghost use Rattle.serde_json.specs.View.{view};
-ghost use Rattle.backend_json.specs.Members.{Gives};
+ghost use Rattle.backend_json.specs.Members.{GivesMember};
 ghost use Rattle.backend_json.specs.Requests.{head_in};
 
-use crate::member::{Gap, peer, sender, text, whole};
+use crate::MessageType;
+use crate::member::{Gap, Key, needed};
 use serde_json::Value;
 use std::alloc::Global;
 use wire_ids::{PeerId, Sender, Text};
@@ -19,30 +19,24 @@ pub struct Head {
     pub receiver: PeerId,
     /// TransactionID.
     pub transaction_id: u32,
-    /// MessageType, any text.
-    pub message_type: Text,
+    /// MessageType.
+    pub message_type: MessageType,
 }
 
 #[tactic(auto, unfolding(crate::specs::Requests::head_in))]
 pub(crate) fn read_head(alloc: Global, value: &Value) -> Result<Head, Gap>
-    ensures { Gives result (head_in (view value.now)) }
+    ensures { GivesMember result (head_in (view value.now)) }
 {
-    let protocol_version = text(alloc, value, "ProtocolVersion")?;
-    let sender = match sender(value, "SenderID") {
-        Ok(sender) => sender,
-        Err(gap) => return Err(gap),
-    };
-    let receiver = match peer(value, "ReceiverID") {
-        Ok(receiver) => receiver,
-        Err(gap) => return Err(gap),
-    };
-    let transaction_id = whole(value, 1 << 32, "TransactionID")?;
-    let message_type = text(alloc, value, "MessageType")?;
+    let protocol_version = needed(alloc, value, Key::ProtocolVersion)?;
+    let sender = needed(alloc, value, Key::SenderId)?;
+    let receiver = needed(alloc, value, Key::ReceiverId)?;
+    let transaction_id = needed(alloc, value, Key::TransactionId)?;
+    let message_type = needed(alloc, value, Key::MessageType)?;
     Ok(Head {
         protocol_version,
         sender,
         receiver,
-        transaction_id: transaction_id as u32,
+        transaction_id,
         message_type,
     })
 }

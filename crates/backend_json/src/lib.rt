@@ -2,21 +2,27 @@
 #![tactic(auto)]
 
 mod answer;
-mod digits;
-mod fields;
+mod form;
 mod head;
 pub mod laws;
 mod member;
+mod members;
 mod message;
+mod message_type;
+mod object;
 mod refusal;
 mod request;
+mod session;
 #[cfg(test)]
 mod tests;
+mod value;
 mod writing;
 
-pub use answer::{Answer, AnswerKeys, AppSKeyAnswer, JoinAnswer, KeyEnvelope, Outcome};
-pub use fields::answer_text;
+pub use answer::{Answer, AnswerKeys, AppSKeyAnswer, JoinAnswer, KekLabel, KeyEnvelope, Outcome};
 pub use head::Head;
+pub use members::answer_text;
 pub use message::{Bad, Message, read_message};
+pub use message_type::{MessageType, ReceiverKind, SenderKind};
 pub use refusal::{Refusal, ResultCode};
-pub use request::{AppSKeyRequest, JoinRequest, SessionKeyId};
+pub use request::{AppSKeyRequest, JoinRequest, Request};
+pub use session::SessionKeyId;

@@ -1,22 +1,21 @@
-ghost use Rattle.std.specs.Prelude.{◌≡◌, ◌≢◌, ◌↔◌, Some, None, IfOk, IfErr, IsTrue};
+ghost use Rattle.std.specs.Prelude.{◌≡◌, IfOk, option_map};
 ghost use Rattle.serde_json.specs.View.{view};
-ghost use Rattle.backend_json.specs.Messages.{Reads, json_of, message_of, with_head};
+ghost use Rattle.backend_json.specs.Messages.{GivesBad, json_of, message_of, with_head};
 
 use crate::head::read_head;
 use crate::member::Gap;
-use crate::request::{Request, read_request};
-use crate::{AppSKeyRequest, Head, JoinRequest};
+use crate::request::read_request;
+use crate::{Head, Request};
 use serde_json::Value;
 use std::alloc::Global;
-use wire_ids::Text;
+use wire_ids::{Memory, Text};
 
 /// A readable message.
 #[derive(PartialEq, Eq, Drop)]
-pub enum Message {
-    JoinReq { head: Head, request: JoinRequest },
-    AppSKeyReq { head: Head, request: AppSKeyRequest },
-    /// Of a type that isn't served, so its common members alone were read.
-    Unknown { head: Head },
+pub struct Message {
+    pub head: Head,
+    /// What it asks, of the head's type.
+    pub request: Request,
 }
 
 /// Why a body is no readable message: the first cause in the order `TooLong`, `NotJson`, `Member`,
@@ -32,54 +31,49 @@ pub enum Bad {
     Version { head: Head },
     /// It has more than 8,192 bytes.
     TooLong,
-    /// There was no memory. This may come in place of any other answer.
-    Memory,
 }
 
 // The value of a JSON text.
-fn json(alloc: Global, body: &[u8]) -> Result<Value, Bad>
-    ensures ok { IfOk result (λ v. json_of body.now ≡ Some (view v)) }
-    ensures err { IfErr result (λ e. e ≢ Bad.Memory
-        → (e ≡ Bad.NotJson) × (json_of body.now ≡ None)) }
+fn json(alloc: Global, body: &[u8]) -> Result<Option<Value>, Memory>
+    ensures { IfOk result (λ found. option_map view found ≡ json_of body.now) }
 {
     match Value::from_slice(alloc, body) {
-        Ok(value) => Ok(value),
+        Ok(value) => Ok(Some(value)),
         Err(error) => if error.is_memory() {
-            Err(Bad::Memory)
+            Err(Memory)
         } else {
-            Err(Bad::NotJson)
+            Ok(None)
         },
     }
 }
 
-fn bad_member(alloc: Global, name: &'static str, head: Option<Head>) -> Bad
-    ensures { result ≢ Bad.Memory → result ≡ Bad.Member name.now head }
+// What is to be said of a gap in a message with this head.
+fn bad_member(alloc: Global, gap: Gap, head: Option<Head>) -> Result<Bad, Memory>
+    ensures { GivesBad result gap head }
 {
-    match Text::of_slice(alloc, name.as_bytes()) {
-        Ok(name) => Bad::Member { name, head },
-        Err(_) => Bad::Memory,
+    match gap {
+        Gap::Member(key) => {
+            let name = Text::of_slice(alloc, key.path().as_bytes())?;
+            Ok(Bad::Member { name, head })
+        }
+        Gap::Memory => Err(Memory),
     }
 }
 
 // The message of a value whose head was read.
 #[tactic(auto, unfolding(crate::specs::Messages::with_head))]
-fn read_rest(alloc: Global, head: Head, value: &Value) -> Result<Message, Bad>
-    ensures { Reads result (with_head head (view value.now)) }
+fn read_rest(alloc: Global, head: Head, value: &Value) -> Result<Result<Message, Bad>, Memory>
+    ensures { IfOk result (λ found. found ≡ with_head head (view value.now)) }
 {
-    let request = match read_request(alloc, head.message_type.as_slice(), value) {
+    let request = match read_request(alloc, head.message_type, value) {
         Ok(request) => request,
-        Err(Gap::Member { name }) => return Err(bad_member(alloc, name, Some(head))),
-        Err(Gap::Memory) => return Err(Bad::Memory),
+        Err(gap) => return Ok(Err(bad_member(alloc, gap, Some(head))?)),
     };
     let version = head.protocol_version.as_slice();
     if version != b"1.0".as_slice() && version != b"1.1".as_slice() {
-        return Err(Bad::Version { head });
+        return Ok(Err(Bad::Version { head }));
     }
-    Ok(match request {
-        Request::JoinReq(request) => Message::JoinReq { head, request },
-        Request::AppSKeyReq(request) => Message::AppSKeyReq { head, request },
-        Request::Unknown => Message::Unknown { head },
-    })
+    Ok(Ok(Message { head, request }))
 }
 
 /// The message that a body of at most 8,192 bytes is, or why it is none (TS002, Messages and
@@ -89,20 +83,20 @@ fn read_rest(alloc: Global, head: Head, value: &Value) -> Result<Message, Bad>
 /// neither fraction nor exponent. Of a name that stands twice the last member counts. A member may
 /// be missing only where it is optional, and is ill-formed where it is null.
 #[tactic(auto, unfolding(crate::specs::Messages::message_of))]
-pub fn read_message(alloc: Global, body: &[u8]) -> Result<Message, Bad>
-    ensures { Reads result (message_of body.now) }
+pub fn read_message(alloc: Global, body: &[u8]) -> Result<Result<Message, Bad>, Memory>
+    ensures { IfOk result (λ found. found ≡ message_of body.now) }
 {
     if body.len() > 8192 {
-        return Err(Bad::TooLong);
+        return Ok(Err(Bad::TooLong));
     }
-    let value = json(alloc, body)?;
-    if !value.is_object() {
-        return Err(Bad::NotJson);
-    }
-    let head = match read_head(alloc, &value) {
-        Ok(head) => head,
-        Err(Gap::Member { name }) => return Err(bad_member(alloc, name, None)),
-        Err(Gap::Memory) => return Err(Bad::Memory),
+    let Some(value) = json(alloc, body)? else {
+        return Ok(Err(Bad::NotJson));
     };
-    read_rest(alloc, head, &value)
+    if !value.is_object() {
+        return Ok(Err(Bad::NotJson));
+    }
+    match read_head(alloc, &value) {
+        Ok(head) => read_rest(alloc, head, &value),
+        Err(gap) => Ok(Err(bad_member(alloc, gap, None)?)),
+    }
 }

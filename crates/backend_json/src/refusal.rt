@@ -1,6 +1,8 @@
 ghost use Rattle.std.specs.Prelude.{◌≡◌};
-ghost use Rattle.backend_json.specs.Refusals.{code_of, code_text, description_of, number_of};
-ghost use Rattle.backend_json.specs.Refusals.{row_of};
+ghost use Rattle.backend_json.specs.Refusals.{code_of, code_text, number_of, row_of, said_of};
+ghost use Rattle.backend_json.specs.Refusals.{words_of};
+
+use wire_ids::Text;
 
 /// The ResultCode of an answer (TS002, Messages and Payloads).
 #[derive(Clone, Copy, Debug, PartialEq, Eq)]
@@ -39,8 +41,9 @@ impl ResultCode {
     }
 }
 
-/// Why a request is refused, in the order in which the causes are tried.
-#[derive(Clone, Copy, Debug, PartialEq, Eq)]
+/// Why a request is refused: the causes in the order in which they are tried, and then what the
+/// peer that was asked for it comes to.
+#[derive(Debug, PartialEq, Eq, Drop)]
 pub enum Refusal {
     /// The body is no readable message.
     Message,
@@ -70,52 +73,76 @@ pub enum Refusal {
     Spent,
     /// No session has this SessionKeyID.
     Session,
+    /// The ask isn't open any more.
+    PeerLate,
+    /// The peer couldn't be asked.
+    PeerFailed,
+    /// What the peer said is no answer to the ask.
+    PeerAnswer,
+    /// The peer refused with this ResultCode, of ASCII letters and digits.
+    PeerSaid { code: Text },
 }
 
 impl Refusal {
-    // The table of the refusals: number, ResultCode and Description.
+    // The table of the refusals: number, ResultCode, and the words of the Description.
     #[tactic(auto, unfolding(crate::specs::Refusals::row_of))]
-    fn row(self) -> (u8, ResultCode, &'static str)
-        ensures number { result.0 ≡ (row_of self).number }
-        ensures code { result.1 ≡ (row_of self).code }
-        ensures description { result.2.now ≡ (row_of self).description }
+    fn row(&self) -> (Option<u8>, ResultCode, &'static str)
+        ensures number { result.0 ≡ (row_of self.now).number }
+        ensures code { result.1 ≡ (row_of self.now).code }
+        ensures words { result.2.now ≡ (row_of self.now).words }
     {
         match self {
-            Refusal::Message => (1, ResultCode::MalformedRequest, "message"),
-            Refusal::Version => (2, ResultCode::InvalidProtocolVersion, "version"),
-            Refusal::Sender => (3, ResultCode::UnknownSender, "sender"),
-            Refusal::Receiver => (4, ResultCode::UnknownReceiver, "receiver"),
-            Refusal::Type => (5, ResultCode::MalformedRequest, "type"),
-            Refusal::Size => (8, ResultCode::FrameSizeError, "size"),
-            Refusal::Frame => (9, ResultCode::MalformedRequest, "frame"),
-            Refusal::Device => (10, ResultCode::UnknownDevEui, "device"),
-            Refusal::Home => (12, ResultCode::ActivationDisallowed, "home"),
-            Refusal::Eui => (18, ResultCode::JoinReqFailed, "eui"),
-            Refusal::Mic => (19, ResultCode::MicFailed, "mic"),
-            Refusal::Counter => (20, ResultCode::JoinReqFailed, "counter"),
-            Refusal::Spent => (21, ResultCode::JoinReqFailed, "spent"),
-            Refusal::Session => (27, ResultCode::Other, "session"),
+            Refusal::Message => (Some(1), ResultCode::MalformedRequest, "message"),
+            Refusal::Version => (Some(2), ResultCode::InvalidProtocolVersion, "version"),
+            Refusal::Sender => (Some(3), ResultCode::UnknownSender, "sender"),
+            Refusal::Receiver => (Some(4), ResultCode::UnknownReceiver, "receiver"),
+            Refusal::Type => (Some(5), ResultCode::MalformedRequest, "type"),
+            Refusal::Size => (Some(8), ResultCode::FrameSizeError, "size"),
+            Refusal::Frame => (Some(9), ResultCode::MalformedRequest, "frame"),
+            Refusal::Device => (Some(10), ResultCode::UnknownDevEui, "device"),
+            Refusal::Home => (Some(12), ResultCode::ActivationDisallowed, "home"),
+            Refusal::Eui => (Some(18), ResultCode::JoinReqFailed, "eui"),
+            Refusal::Mic => (Some(19), ResultCode::MicFailed, "mic"),
+            Refusal::Counter => (Some(20), ResultCode::JoinReqFailed, "counter"),
+            Refusal::Spent => (Some(21), ResultCode::JoinReqFailed, "spent"),
+            Refusal::Session => (Some(27), ResultCode::Other, "session"),
+            Refusal::PeerLate => (None, ResultCode::Other, "peer late"),
+            Refusal::PeerFailed => (None, ResultCode::Other, "peer failed"),
+            Refusal::PeerAnswer => (None, ResultCode::Other, "peer answer"),
+            Refusal::PeerSaid { code: _ } => (None, ResultCode::Other, "peer said "),
         }
     }
 
-    /// Its place in the order of refusals: of several causes the least number is answered.
-    pub fn number(self) -> u8
-        ensures { result ≡ number_of self }
+    /// Its place in the order of refusals: of several causes the least number is answered. None
+    /// where a peer was asked.
+    pub fn number(&self) -> Option<u8>
+        ensures { result ≡ number_of self.now }
     {
         self.row().0
     }
 
     /// Its ResultCode.
-    pub fn code(self) -> ResultCode
-        ensures { result ≡ code_of self }
+    pub fn code(&self) -> ResultCode
+        ensures { result ≡ code_of self.now }
     {
         self.row().1
     }
 
-    /// The Description beside its ResultCode.
-    pub fn description(self) -> &'static str
-        ensures { result.now ≡ description_of self }
+    /// The words of its Description, which [`said`](Refusal::said) completes.
+    pub fn words(&self) -> &'static str
+        ensures { result.now ≡ words_of self.now }
     {
         self.row().2
+    }
+
+    /// What its Description has behind the words: the ResultCode that a peer said, and nothing at
+    /// any other cause.
+    pub fn said(&self) -> &[u8]
+        ensures { result.now ≡ said_of self.now }
+    {
+        match self {
+            Refusal::PeerSaid { code } => code.as_slice(),
+            _ => &[],
+        }
     }
 }

@@ -1,19 +1,13 @@
-ghost use Rattle.std.specs.Prelude.{◌≡◌};
 ghost use Rattle.serde_json.specs.View.{view};
-ghost use Rattle.backend_json.specs.Members.{Gives};
-ghost use Rattle.backend_json.specs.Requests.{app_s_key_req_in, join_req_in, request_in};
+ghost use Rattle.backend_json.specs.Members.{GivesMember};
+ghost use Rattle.backend_json.specs.Requests.{app_s_key_req_in, join_req_in, radio_in, request_in};
 
-use crate::member::{Gap, byte, bytes, cf_list, dev_addr, eui, session_key_id, text, whole};
+use crate::form::{Below, Byte, Bytes, CfList};
+use crate::member::{Gap, Key, needed, optional};
+use crate::{MessageType, SessionKeyId};
 use serde_json::Value;
 use std::alloc::Global;
-use wire_ids::{DevAddr, Eui, Nonce24, Text};
-
-/// The name of a session's AppSKey: the DevEUI and the JoinNonce of its join.
-#[derive(Clone, Copy, Debug, PartialEq, Eq)]
-pub struct SessionKeyId {
-    pub dev_eui: Eui,
-    pub join_nonce: Nonce24,
-}
+use wire_ids::{DevAddr, Eui, Radio, Text};
 
 /// The members of a JoinReq.
 #[derive(PartialEq, Eq, Drop)]
@@ -24,12 +18,9 @@ pub struct JoinRequest {
     pub phy_payload: Text,
     pub dev_eui: Eui,
     pub dev_addr: DevAddr,
-    /// DLSettings, any byte.
-    pub dl_settings: u8,
-    /// RxDelay, from 0 to 15.
-    pub rx_delay: u8,
-    /// CFList, where the member stands there and has digits.
-    pub cf_list: Option<[u8; 16]>,
+    /// DLSettings, any byte; RxDelay, from 0 to 15; and the CFList, where the member stands there
+    /// and has digits.
+    pub radio: Radio,
 }
 
 /// The members of an AppSKeyReq.
@@ -39,65 +30,70 @@ pub struct AppSKeyRequest {
     pub session_key_id: SessionKeyId,
 }
 
-/// The members of a message beside its head.
-#[derive(Drop)]
-pub(crate) enum Request {
+/// What a message asks: the members that its type has beside the head.
+#[derive(PartialEq, Eq, Drop)]
+pub enum Request {
     JoinReq(JoinRequest),
     AppSKeyReq(AppSKeyRequest),
+    /// Of a type that isn't served no further member was read.
     Unknown,
+}
+
+// The radio parameters: DLSettings, RxDelay and CFList.
+#[tactic(auto, unfolding(crate::specs::Requests::radio_in))]
+fn radio(alloc: Global, value: &Value) -> Result<Radio, Gap>
+    ensures { GivesMember result (radio_in (view value.now)) }
+{
+    let Byte(dl) = needed(alloc, value, Key::DlSettings)?;
+    let rx_delay: Below<16> = needed(alloc, value, Key::RxDelay)?;
+    let cf_list: Option<CfList> = optional(alloc, value, Key::CfList)?;
+    Ok(Radio {
+        dl,
+        rx_delay: rx_delay.0,
+        cf: match cf_list {
+            Some(CfList(cf)) => cf,
+            None => None,
+        },
+    })
 }
 
 #[tactic(auto, unfolding(crate::specs::Requests::join_req_in))]
 fn join_req(alloc: Global, value: &Value) -> Result<JoinRequest, Gap>
-    ensures { Gives result (join_req_in (view value.now)) }
+    ensures { GivesMember result (join_req_in (view value.now)) }
 {
-    let mac_version = text(alloc, value, "MACVersion")?;
-    let phy_payload = bytes(alloc, value, "PHYPayload")?;
-    let dev_eui = eui(value, "DevEUI")?;
-    let dev_addr = dev_addr(value, "DevAddr")?;
-    let dl_settings = byte(value, "DLSettings")?;
-    let rx_delay = whole(value, 16, "RxDelay")?;
-    let cf_list = cf_list(value, "CFList")?;
+    let mac_version = needed(alloc, value, Key::MacVersion)?;
+    let Bytes(phy_payload) = needed(alloc, value, Key::PhyPayload)?;
+    let dev_eui = needed(alloc, value, Key::DevEui)?;
+    let dev_addr = needed(alloc, value, Key::DevAddr)?;
+    let radio = radio(alloc, value)?;
     Ok(JoinRequest {
         mac_version,
         phy_payload,
         dev_eui,
         dev_addr,
-        dl_settings,
-        rx_delay: rx_delay as u8,
-        cf_list,
+        radio,
     })
 }
 
 #[tactic(auto, unfolding(crate::specs::Requests::app_s_key_req_in))]
-fn app_s_key_req(value: &Value) -> Result<AppSKeyRequest, Gap>
-    ensures { Gives result (app_s_key_req_in (view value.now)) }
+fn app_s_key_req(alloc: Global, value: &Value) -> Result<AppSKeyRequest, Gap>
+    ensures { GivesMember result (app_s_key_req_in (view value.now)) }
 {
-    let dev_eui = eui(value, "DevEUI")?;
-    match session_key_id(value, "SessionKeyID") {
-        Ok(session_key_id) => Ok(AppSKeyRequest {
-            dev_eui,
-            session_key_id,
-        }),
-        Err(gap) => Err(gap),
-    }
+    let dev_eui = needed(alloc, value, Key::DevEui)?;
+    let session_key_id = needed(alloc, value, Key::SessionKeyId)?;
+    Ok(AppSKeyRequest {
+        dev_eui,
+        session_key_id,
+    })
 }
 
 #[tactic(auto, unfolding(crate::specs::Requests::request_in))]
-pub(crate) fn read_request(alloc: Global, kind: &[u8], value: &Value) -> Result<Request, Gap>
-    ensures { Gives result (request_in kind.now (view value.now)) }
+pub(crate) fn read_request(alloc: Global, kind: MessageType, value: &Value) -> Result<Request, Gap>
+    ensures { GivesMember result (request_in kind (view value.now)) }
 {
-    if kind == b"JoinReq".as_slice() {
-        match join_req(alloc, value) {
-            Ok(request) => Ok(Request::JoinReq(request)),
-            Err(gap) => Err(gap),
-        }
-    } else if kind == b"AppSKeyReq".as_slice() {
-        match app_s_key_req(value) {
-            Ok(request) => Ok(Request::AppSKeyReq(request)),
-            Err(gap) => Err(gap),
-        }
-    } else {
-        Ok(Request::Unknown)
-    }
+    Ok(match kind {
+        MessageType::JoinReq => Request::JoinReq(join_req(alloc, value)?),
+        MessageType::AppSKeyReq => Request::AppSKeyReq(app_s_key_req(alloc, value)?),
+        MessageType::Unknown => Request::Unknown,
+    })
 }

@@ -1,20 +1,18 @@
-ghost use Rattle.std.specs.Prelude.{◌≡◌, ◌<◌, [], ◌∷◌, ◌++◌, Some, slice_index, OnOk, IsTrue};
+//! Strings, digits and numbers as they stand in JSON.
+
+ghost use Rattle.std.specs.Prelude.{◌≡◌, ◌<◌, ◌≤◌, ◌*◌, ◌++◌, length, OnOk, IsTrue};
 ghost use Rattle.std.specs.Char.{digit_char};
-ghost use Rattle.hex.specs.Hex.{encode_lower, lower_digits};
+ghost use Rattle.hex.specs.Hex.{encode_lower};
 ghost use Rattle.json.specs.Print.{escape, escape_byte, escape_letter, quoted};
-ghost use Rattle.serde_json.specs.Data.{number, string, unsigned};
+ghost use Rattle.serde_json.specs.Data.{number, unsigned};
 ghost use Rattle.serde_json.specs.Written.{compact_text};
-ghost use Rattle.backend_json.specs.Answers.{hex_data};
-ghost use Rattle.backend_json.specs.Written.{name_text, value_text};
 
 use std::alloc::AllocError;
 
 // The digit of a number below 16.
-#[tactic(auto, using(crate::proofs::Escapes::lower_digit))]
 fn digit(number: u8) -> u8
     requires { number < 16 }
-    ensures code { result ≡ digit_char number }
-    ensures lower { result ≡ slice_index lower_digits number }
+    ensures { result ≡ digit_char number }
 {
     if number < 10 {
         b'0' + number
@@ -94,53 +92,55 @@ pub(crate) fn put_string(out: &mut Vec<u8>, text: &[u8]) -> Result<(), AllocErro
     out.extend_from_slice(b"\"")
 }
 
+/// Writes two texts as one string.
+pub(crate) fn put_strings(out: &mut Vec<u8>, first: &[u8], second: &[u8]) -> Result<(), AllocError>
+    ensures { OnOk result (out.new.items
+        ≡ out.old.items ++ quoted (first.now ++ second.now)) }
+{
+    out.extend_from_slice(b"\"")?;
+    put_escapes(out, first)?;
+    put_escapes(out, second)?;
+    out.extend_from_slice(b"\"")
+}
+
+// Makes the lower-case digits of bytes, as they stand in a string.
+fn make_digits(bytes: &[u8], digits: &mut [u8])
+    requires { length digits.old ≡ 2 * length bytes.now }
+    ensures { digits.new ≡ escape (encode_lower bytes.now) }
+{
+    let _ = hex::encode_to_slice(bytes, digits);
+}
+
+// Writes the lower-case digits of at most 32 bytes.
+fn put_block(out: &mut Vec<u8>, bytes: &[u8]) -> Result<(), AllocError>
+    requires { length bytes.now ≤ 32 }
+    ensures { OnOk result (out.new.items ≡ out.old.items ++ escape (encode_lower bytes.now)) }
+{
+    let mut room = [0; 64];
+    let digits = &mut room[..2 * bytes.len()];
+    make_digits(bytes, digits);
+    out.extend_from_slice(digits)
+}
+
+// Writes the lower-case digits of bytes, 32 after 32.
 fn put_digits(out: &mut Vec<u8>, bytes: &[u8]) -> Result<(), AllocError>
     ensures { OnOk result (out.new.items ≡ out.old.items ++ escape (encode_lower bytes.now)) }
 {
-    for byte in bytes {
-        out.extend_from_slice(&[digit(*byte / 16), digit(*byte % 16)])?;
+    if bytes.len() <= 32 {
+        return put_block(out, bytes);
     }
-    Ok(())
+    let (front, rest) = bytes.split_at(32);
+    put_block(out, front)?;
+    put_digits(out, rest)
 }
 
 /// Writes bytes as a string of lower-case digits.
 pub(crate) fn put_hex(out: &mut Vec<u8>, bytes: &[u8]) -> Result<(), AllocError>
-    ensures { OnOk result (out.new.items ≡ out.old.items ++ compact_text (hex_data bytes.now)) }
+    ensures { OnOk result (out.new.items ≡ out.old.items ++ quoted (encode_lower bytes.now)) }
 {
     out.extend_from_slice(b"\"")?;
     put_digits(out, bytes)?;
     out.extend_from_slice(b"\"")
-}
-
-/// Writes a member's name, and the colon behind it.
-#[tactic(auto, unfolding(crate::specs::Written::name_text))]
-pub(crate) fn put_name(out: &mut Vec<u8>, name: &str) -> Result<(), AllocError>
-    ensures { OnOk result (out.new.items ≡ out.old.items ++ name_text name.now) }
-{
-    put_string(out, name.as_bytes())?;
-    out.extend_from_slice(b":")
-}
-
-/// Writes a member that is a string, and the comma behind it.
-#[tactic(auto, unfolding(crate::specs::Written::value_text))]
-pub(crate) fn put_text_member(out: &mut Vec<u8>, name: &str, text: &[u8]) -> Result<(), AllocError>
-    ensures { OnOk result (out.new.items
-        ≡ out.old.items ++ value_text name.now (Some (string text.now))) }
-{
-    put_name(out, name)?;
-    put_string(out, text)?;
-    out.extend_from_slice(b",")
-}
-
-/// Writes a member of hexadecimal digits, and the comma behind it.
-#[tactic(auto, unfolding(crate::specs::Written::value_text))]
-pub(crate) fn put_hex_member(out: &mut Vec<u8>, name: &str, bytes: &[u8]) -> Result<(), AllocError>
-    ensures { OnOk result (out.new.items
-        ≡ out.old.items ++ value_text name.now (Some (hex_data bytes.now))) }
-{
-    put_name(out, name)?;
-    put_hex(out, bytes)?;
-    out.extend_from_slice(b",")
 }
 
 /// Writes a number.

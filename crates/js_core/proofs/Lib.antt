@@ -4,3 +4,9 @@ pub mod Long
 pub mod JoinFrames
 pub mod Order
 pub mod Sessions
+pub mod Changes
+pub mod Cases
+pub mod Unread
+pub mod AppKeys
+pub mod Marks
+pub mod Issuing

@@ -5,4 +5,4 @@ use Rattle.js_core.specs.Rules.{CausesAscend, app_s_key_rules, join_rules, unkno
 
 pub causes_ascend : CausesAscend
 unfolding row_of join_rules app_s_key_rules unknown_rules
-causes_ascend = record { join = λ c keys m head request. refl; app_s_key = λ c m head request. refl; unknown = λ c head. refl }
+causes_ascend = record { join = λ c nwk m head request. refl; app_s_key = λ c m head request. refl; unknown = λ c head. refl }

@@ -11,8 +11,9 @@ use Rattle.agreements.specs.LookUps.{Belongs, device_place}
 use Rattle.agreements.specs.declared.rows.DeviceRow.{DeviceRow}
 use Rattle.agreements.specs.declared.rows.ApplicationRow.{ApplicationRow}
 use Rattle.agreements.specs.declared.rows.NetworkRow.{NetworkRow}
-use Rattle.backend_json.specs.Answers.{KeyField, key_fields, key_member}
+use Rattle.backend_json.specs.Keys.{KeyMember, key_member, key_members}
 use Rattle.backend_json.specs.declared.answer.Answer.{Answer}
+use Rattle.backend_json.specs.declared.answer.Answer.TheVariants.{Headed, Headless}
 use Rattle.backend_json.specs.declared.answer.AppSKeyAnswer.{AppSKeyAnswer}
 use Rattle.backend_json.specs.declared.answer.JoinAnswer.{JoinAnswer}
 use Rattle.backend_json.specs.declared.answer.Outcome.TheVariants.{AppSKeyAns, JoinAns, Refused}
@@ -65,7 +66,7 @@ member_name SNwkSIntKey = codes "SNwkSIntKey"
 member_name NwkSEncKey = codes "NwkSEncKey"
 member_name AppSKey = codes "AppSKey"
 
-abbrev pub member_of : entitlement.KeyField → KeyField
+abbrev pub member_of : entitlement.KeyField → KeyMember
 member_of field = key_member (member_name field.name) field.label field.aes_key
 
 -- in the order of an answer's members: AppSKey, FNwkSIntKey, NwkSEncKey, SNwkSIntKey
@@ -73,7 +74,7 @@ abbrev pub in_member_order : List Entry → List Entry
 in_member_order entries = filter is_app_s_key entries ++ (filter is_f_nwk_s_int_key entries ++ (filter is_nwk_s_enc_key entries ++ filter is_s_nwk_s_int_key entries))
 
 -- the key members for these entries of the table: the session's key of that name, wrapped under the KEK of its owner's label
-abbrev pub entitled_fields : Config → List RootKeys → ℕ → DeviceRow → Sender → Seed → List Entry → List KeyField
+abbrev pub entitled_fields : Config → List RootKeys → ℕ → DeviceRow → Sender → Seed → List Entry → List KeyMember
 entitled_fields c keys at row receiver seed entries = map member_of (fields_of (session_key keys at seed) (envelope_of c row receiver) (in_member_order entries))
 
 -- ---- an answer agrees with the table
@@ -84,34 +85,30 @@ pub record JoinAgrees (c : Config) (keys : List RootKeys) (reply : Answer) (join
   pub head : Head
   pub row : DeviceRow
   pub members : JoinAnswer
-  pub is_head : reply.head ≡ Some head
-  pub is_answer : reply.outcome ≡ JoinAns members
+  pub is_answer : reply ≡ Headed head (JoinAns members)
   pub is_row : slice_get c.devices join.device ≡ Some row
   pub is_session : members.session_key_id ≡ record { dev_eui = row.dev_eui; join_nonce = join.seed.nonce }
-  pub fields : key_fields reply ≡ entitled_fields c keys join.device row head.sender join.seed (entries_for row head.sender answer.JoinAns c.desk.lifetime_s)
+  pub fields : key_members reply ≡ entitled_fields c keys join.device row head.sender join.seed (entries_for row head.sender answer.JoinAns c.desk.lifetime_s)
 
 -- an AppSKeyAns: the key of the kept seed that its SessionKeyID names, for the role of its receiver
-pub record AppSKeyAgrees (c : Config) (keys : List RootKeys) (m : Machine) (reply : Answer) (members : AppSKeyAnswer) : Type 0 where
-  pub head : Head
+pub record AppSKeyAgrees (c : Config) (keys : List RootKeys) (m : Machine) (head : Head) (members : AppSKeyAnswer) : Type 0 where
   pub at : ℕ
   pub row : DeviceRow
   pub kept : KeptDevice
   pub seed : KeptSeed
-  pub is_head : reply.head ≡ Some head
   pub is_session : members.session_key_id.dev_eui ≡ members.dev_eui
   pub is_place : device_place members.dev_eui c.devices ≡ Some at
   pub is_row : slice_get c.devices at ≡ Some row
   pub is_kept : slice_get m.devices at ≡ Some kept
   pub is_seed : seed_with members.session_key_id.join_nonce kept ≡ Some seed
-  pub fields : key_fields reply ≡ entitled_fields c keys at row head.sender seed.seed (entries_for row head.sender answer.AppSKeyAns 0)
+  pub fields : key_members (Headed head (AppSKeyAns members)) ≡ entitled_fields c keys at row head.sender seed.seed (entries_for row head.sender answer.AppSKeyAns 0)
 
 -- a refusal has no key; a JoinAns comes with the join that it accepts
 abbrev pub ReplyAgrees : Config → List RootKeys → Machine → Answer → Type 0
-ReplyAgrees c keys m reply = elim reply.outcome [
-  | Refused cause ↦ key_fields reply ≡ []
-  | JoinAns members ↦ ⊥
-  | AppSKeyAns members ↦ AppSKeyAgrees c keys m reply members
-]
+ReplyAgrees c keys m Headless = key_members Headless ≡ []
+ReplyAgrees c keys m (Headed head (Refused cause)) = key_members (Headed head (Refused cause)) ≡ []
+ReplyAgrees c keys m (Headed head (JoinAns members)) = ⊥
+ReplyAgrees c keys m (Headed head (AppSKeyAns members)) = AppSKeyAgrees c keys m head members
 
 abbrev pub Agrees : Config → List RootKeys → Machine → Decision → Type 0
 Agrees c keys m (decision.Reply reply) = ReplyAgrees c keys m reply

@@ -5,3 +5,6 @@ pub mod Rules
 pub mod Replies
 pub mod Step
 pub mod Agreement
+pub mod Runs
+pub mod AppKey
+pub mod Issues

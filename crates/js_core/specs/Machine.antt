@@ -1,5 +1,6 @@
 -- What the join server keeps of its devices, and what a join changes in it.
-use Rattle.std.specs.Prelude.{◌≡◌, ℕ, List, [], ◌∷◌, length, take, slice_get, slice_set, Option, Some, None}
+use Rattle.std.specs.Prelude.{◌≡◌, ℕ, List, [], ◌∷◌, length, take, Some, None}
+use Rattle.wire_ids.specs.Lists.{changed}
 use Rattle.wire_ids.specs.declared.keys.Seed.{Seed}
 use Rattle.agreements.specs.Walk.{Config}
 use Rattle.js_core.specs.declared.kept.KeptDevice.{KeptDevice}
@@ -24,14 +25,6 @@ new_device = record { last_dev_nonce = None; last_join_nonce = 0; seeds = record
 -- a join was accepted: its DevNonce and JoinNonce are the last ones, and of its seed and the ones before it the four newest are kept
 unfoldable pub joined : Seed → KeptDevice → KeptDevice
 joined seed d = record d { last_dev_nonce = Some seed.counter; last_join_nonce = seed.nonce; seeds = record { items = take 4 (record { seed = seed } ∷ d.seeds.items) } }
-
-abbrev pub with_changed : {X : Type 0} → List X → ℕ → (X → X) → Option X → List X
-with_changed xs i f None = xs
-with_changed xs i f (Some x) = slice_set xs i (f x)
-
--- the list with element i changed, where there is one
-abbrev pub changed : {X : Type 0} → ℕ → (X → X) → List X → List X
-changed i f xs = with_changed xs i f (slice_get xs i)
 
 -- a join of the device in this row was accepted
 unfoldable pub with_join : ℕ → Seed → Machine → Machine

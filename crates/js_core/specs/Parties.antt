@@ -6,6 +6,10 @@ use Rattle.wire_ids.specs.declared.party.Sender.TheVariants as sender
 use Rattle.wire_ids.specs.declared.party.PeerId.{PeerId}
 use Rattle.wire_ids.specs.declared.party.PeerId.TheVariants as receiver
 use Rattle.agreements.specs.Walk.{Config}
+use Rattle.backend_json.specs.declared.message_type.ReceiverKind.{ReceiverKind}
+use Rattle.backend_json.specs.declared.message_type.ReceiverKind.TheVariants as to
+use Rattle.backend_json.specs.declared.message_type.SenderKind.{SenderKind}
+use Rattle.backend_json.specs.declared.message_type.SenderKind.TheVariants as from
 use Rattle.agreements.specs.LookUps.{application_row, network_row}
 use Rattle.agreements.specs.Rows.{has_eui, has_gateway}
 use Rattle.agreements.specs.declared.rows.NetworkRow.{NetworkRow}
@@ -22,25 +26,19 @@ unfoldable pub is_known : Config → Sender → Bool
 is_known c (sender.Network net) = is_some (network_of c net)
 is_known c (sender.Party id) = is_some (application_named c id) || has_gateway id c.gateways
 
--- the receiver is the join server of one of the desk's JoinEUIs
-unfoldable pub is_own_join_server : Config → PeerId → Bool
-is_own_join_server c (receiver.Network net) = false
-is_own_join_server c (receiver.JoinServer join_eui) = has_eui join_eui c.desk.join_euis
+-- the receiver is the desk, by a name of this kind
+unfoldable pub reaches : Config → ReceiverKind → PeerId → Bool
+reaches c to.JoinServer (receiver.Network net) = false
+reaches c to.Any (receiver.Network net) = net == c.desk.net_id
+reaches c kind (receiver.JoinServer join_eui) = has_eui join_eui c.desk.join_euis
 
--- the receiver is the desk under one of its names
-unfoldable pub is_own : Config → PeerId → Bool
-is_own c (receiver.Network net) = net == c.desk.net_id
-is_own c (receiver.JoinServer join_eui) = has_eui join_eui c.desk.join_euis
-
--- a sender of the kind that sends joins
-abbrev pub is_network : Sender → Bool
-is_network (sender.Network net) = true
-is_network (sender.Party id) = false
-
--- a sender of the kind that asks for application keys
-unfoldable pub is_application : Config → Sender → Bool
-is_application c (sender.Network net) = false
-is_application c (sender.Party id) = is_some (application_named c id)
+-- the sender is of this kind
+unfoldable pub may_send : Config → SenderKind → Sender → Bool
+may_send c from.Network (sender.Network net) = true
+may_send c from.Network (sender.Party id) = false
+may_send c from.Application (sender.Network net) = false
+may_send c from.Application (sender.Party id) = is_some (application_named c id)
+may_send c from.Nobody sender = false
 
 -- the network of this NetID
 abbrev pub is_net : ℕ → Sender → Bool

@@ -2,14 +2,14 @@
 use Rattle.std.specs.Prelude.{◌≡◌, ℕ, ◌==◌, ◌||◌, nat_le, not, List, [], ◌∷◌, map, take, drop, slice_get, Option, Some, None, Bool, true, false, is_none}
 use Rattle.std.specs.List.{list_any}
 use Rattle.std.specs.Str.{bytes_eq}
+use Rattle.wire_ids.specs.Lists.{at_place, holds_of}
 use Rattle.wire_ids.specs.Rules.{Rule}
-use Rattle.wire_ids.specs.declared.keys.RootKeys.{RootKeys}
-use Rattle.key_vault.specs.Table.{nwk_at}
 use Rattle.join_frames.specs.Mics.{mic}
 use Rattle.agreements.specs.Walk.{Config}
 use Rattle.agreements.specs.LookUps.{device_place}
 use Rattle.agreements.specs.declared.rows.DeviceRow.{DeviceRow}
 use Rattle.backend_json.specs.Refusals.{number_of}
+use Rattle.backend_json.specs.Types.{receiver_of, sender_of}
 use Rattle.backend_json.specs.declared.head.Head.{Head}
 use Rattle.backend_json.specs.declared.request.JoinRequest.{JoinRequest}
 use Rattle.backend_json.specs.declared.request.AppSKeyRequest.{AppSKeyRequest}
@@ -19,25 +19,15 @@ use Rattle.js_core.specs.declared.frames.JoinFrame.{JoinFrame}
 use Rattle.js_core.specs.declared.kept.KeptDevice.{KeptDevice}
 use Rattle.js_core.specs.declared.kept.KeptSeed.{KeptSeed}
 use Rattle.js_core.specs.Machine.{Machine}
-use Rattle.js_core.specs.Parties.{is_app, is_application, is_known, is_net, is_network, is_own, is_own_join_server}
+use Rattle.js_core.specs.Parties.{is_app, is_known, is_net, may_send, reaches}
 use Rattle.js_core.specs.Frames.{is_cf_list, is_dl_settings, is_mac_version, join_frame_of, wrong_size}
-
--- what is there passes the test
-abbrev pub holds_of : {X : Type 0} → (X → Bool) → Option X → Bool
-holds_of test None = false
-holds_of test (Some x) = test x
-
--- the rows of a device, and what is kept of it, by the number of its row
-abbrev pub at_place : {X : Type 0} → List X → Option ℕ → Option X
-at_place xs None = None
-at_place xs (Some at) = slice_get xs at
 
 -- ---- the rules of a join, each by its own test
 
 -- a member doesn't go with the join-request
 abbrev pub wrong_member : JoinRequest → JoinFrame → Bool
 wrong_member request frame =
-    not (is_mac_version request.mac_version) || not (is_dl_settings request.dl_settings) || not (is_cf_list request.cf_list) || not (request.dev_eui.0 == frame.dev_eui.0)
+    not (is_mac_version request.mac_version) || not (is_dl_settings request.radio.dl) || not (is_cf_list request.radio.cf) || not (request.dev_eui.0 == frame.dev_eui.0)
 
 -- the frame is no join-request, or a member doesn't go with it
 unfoldable pub wrong_frame : JoinRequest → Option JoinFrame → Bool
@@ -53,8 +43,8 @@ abbrev pub wrong_join_eui : Option JoinFrame → DeviceRow → Bool
 wrong_join_eui frame row = holds_of (λ (f : JoinFrame). not (f.join_eui.0 == row.join_eui.0)) frame
 
 -- the MIC isn't that of the 19 bytes before it under the NwkKey in this row (LoRaWAN 1.1, 6.2.2)
-abbrev pub wrong_mic : List RootKeys → JoinRequest → ℕ → Bool
-wrong_mic keys request at = not (bytes_eq (drop 19 request.phy_payload) (mic (nwk_at keys at) (take 19 request.phy_payload)))
+abbrev pub wrong_mic : (ℕ → List ℕ) → JoinRequest → ℕ → Bool
+wrong_mic nwk request at = not (bytes_eq (drop 19 request.phy_payload) (mic (nwk at) (take 19 request.phy_payload)))
 
 abbrev pub is_not_above : ℕ → Option ℕ → Bool
 is_not_above n None = false
@@ -68,26 +58,26 @@ low_counter frame kept = holds_of (λ (f : JoinFrame). is_not_above f.dev_nonce 
 abbrev pub is_spent : KeptDevice → Bool
 is_spent kept = kept.last_join_nonce == 16777215
 
-abbrev pub join_rules_at : Config → List RootKeys → Head → JoinRequest → Option JoinFrame → Option ℕ → Option DeviceRow → Option KeptDevice → List (Rule Refusal)
-join_rules_at c keys head request frame at row kept =
+abbrev pub join_rules_at : Config → (ℕ → List ℕ) → Head → JoinRequest → Option JoinFrame → Option ℕ → Option DeviceRow → Option KeptDevice → List (Rule Refusal)
+join_rules_at c nwk head request frame at row kept =
     record { cause = Sender; holds = not (is_known c head.sender) }
-    ∷ record { cause = Receiver; holds = not (is_own_join_server c head.receiver) }
-    ∷ record { cause = «Type»; holds = not (is_network head.sender) }
+    ∷ record { cause = Receiver; holds = not (reaches c (receiver_of head.message_type) head.receiver) }
+    ∷ record { cause = «Type»; holds = not (may_send c (sender_of head.message_type) head.sender) }
     ∷ record { cause = Size; holds = wrong_size request.phy_payload }
     ∷ record { cause = Frame; holds = wrong_frame request frame }
     ∷ record { cause = Device; holds = is_none at }
     ∷ record { cause = Home; holds = holds_of (wrong_home head) row }
     ∷ record { cause = Eui; holds = holds_of (wrong_join_eui frame) row }
-    ∷ record { cause = Mic; holds = holds_of (wrong_mic keys request) at }
+    ∷ record { cause = Mic; holds = holds_of (wrong_mic nwk request) at }
     ∷ record { cause = Counter; holds = holds_of (low_counter frame) kept }
     ∷ record { cause = Spent; holds = holds_of is_spent kept }
     ∷ []
 
 -- the rules of a JoinReq
-unfoldable pub join_rules : Config → List RootKeys → Machine → Head → JoinRequest → List (Rule Refusal)
-join_rules c keys m head request =
+unfoldable pub join_rules : Config → (ℕ → List ℕ) → Machine → Head → JoinRequest → List (Rule Refusal)
+join_rules c nwk m head request =
     let at = device_place request.dev_eui c.devices in
-    join_rules_at c keys head request (join_frame_of request.phy_payload) at (at_place c.devices at) (at_place m.devices at)
+    join_rules_at c nwk head request (join_frame_of request.phy_payload) at (at_place c.devices at) (at_place m.devices at)
 
 -- ---- the rules of an application that asks for its key
 
@@ -108,8 +98,8 @@ wrong_app head (Some row) = not (is_app row.app head.sender)
 abbrev pub app_s_key_rules_at : Config → Head → AppSKeyRequest → Option DeviceRow → Option KeptDevice → List (Rule Refusal)
 app_s_key_rules_at c head request row kept =
     record { cause = Sender; holds = not (is_known c head.sender) }
-    ∷ record { cause = Receiver; holds = not (is_own_join_server c head.receiver) }
-    ∷ record { cause = «Type»; holds = not (is_application c head.sender) }
+    ∷ record { cause = Receiver; holds = not (reaches c (receiver_of head.message_type) head.receiver) }
+    ∷ record { cause = «Type»; holds = not (may_send c (sender_of head.message_type) head.sender) }
     ∷ record { cause = Device; holds = wrong_app head row }
     ∷ record { cause = Session; holds = holds_of (wrong_session request) kept }
     ∷ []
@@ -120,25 +110,28 @@ app_s_key_rules c m head request =
     let at = device_place request.dev_eui c.devices in
     app_s_key_rules_at c head request (at_place c.devices at) (at_place m.devices at)
 
--- ---- the rules of a message of a type that isn't served: the last one always holds
+-- ---- the rules of a message of a type that isn't served: no one may send it
 
 unfoldable pub unknown_rules : Config → Head → List (Rule Refusal)
 unknown_rules c head =
     record { cause = Sender; holds = not (is_known c head.sender) }
-    ∷ record { cause = Receiver; holds = not (is_own c head.receiver) }
+    ∷ record { cause = Receiver; holds = not (reaches c (receiver_of head.message_type) head.receiver) }
     ∷ record { cause = «Type»; holds = true }
     ∷ []
 
 -- ---- the order of the rules
 
 -- the causes' numbers in the table of the refusals
-abbrev pub numbers : List (Rule Refusal) → List ℕ
+abbrev pub numbers : List (Rule Refusal) → List (Option ℕ)
 numbers rules = map (λ (r : Rule Refusal). number_of r.cause) rules
+
+abbrev pub these : List ℕ → List (Option ℕ)
+these ns = map (λ n. Some n) ns
 
 -- the rules of each message stand in the order of that table
 pub record CausesAscend : Type 0 where
-  pub join : (c : Config) (keys : List RootKeys) (m : Machine) (head : Head) (request : JoinRequest)
-      → numbers (join_rules c keys m head request) ≡ 3 ∷ 4 ∷ 5 ∷ 8 ∷ 9 ∷ 10 ∷ 12 ∷ 18 ∷ 19 ∷ 20 ∷ 21 ∷ []
+  pub join : (c : Config) (nwk : ℕ → List ℕ) (m : Machine) (head : Head) (request : JoinRequest)
+      → numbers (join_rules c nwk m head request) ≡ these (3 ∷ 4 ∷ 5 ∷ 8 ∷ 9 ∷ 10 ∷ 12 ∷ 18 ∷ 19 ∷ 20 ∷ 21 ∷ [])
   pub app_s_key : (c : Config) (m : Machine) (head : Head) (request : AppSKeyRequest)
-      → numbers (app_s_key_rules c m head request) ≡ 3 ∷ 4 ∷ 5 ∷ 10 ∷ 27 ∷ []
-  pub unknown : (c : Config) (head : Head) → numbers (unknown_rules c head) ≡ 3 ∷ 4 ∷ 5 ∷ []
+      → numbers (app_s_key_rules c m head request) ≡ these (3 ∷ 4 ∷ 5 ∷ 10 ∷ 27 ∷ [])
+  pub unknown : (c : Config) (head : Head) → numbers (unknown_rules c head) ≡ these (3 ∷ 4 ∷ 5 ∷ [])

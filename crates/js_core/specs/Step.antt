@@ -1,6 +1,7 @@
 -- The machine's step: each line has one answer and one next state.
 use Rattle.std.specs.Prelude.{◌≡◌, ℕ, ◌<◌, List, length, map, take}
 use Rattle.wire_ids.specs.declared.keys.RootKeys.{RootKeys}
+use Rattle.key_vault.specs.Table.{app_at, nwk_at}
 use Rattle.agreements.specs.Walk.{Config}
 use Rattle.backend_json.specs.Answers.{text_of}
 use Rattle.backend_json.specs.Messages.{message_of}
@@ -17,7 +18,7 @@ fresh c = record { devices = map (λ (r : DeviceRow). new_device) c.devices }
 
 -- what a line comes to
 unfoldable pub decided : Config → List RootKeys → Machine → List ℕ → Decision
-decided c keys m line = decision_of c keys m (message_of line)
+decided c keys m line = decision_of c (nwk_at keys) (app_at keys) m (message_of line)
 
 abbrev pub answer_in : Decision → Answer
 answer_in (Reply answer) = answer

@@ -1,8 +1,8 @@
 //! What a message comes to.
 
-ghost use Rattle.std.specs.Prelude.{◌≡◌, ◌<◌, length, map, slice_get, Some, IfOk};
+ghost use Rattle.std.specs.Prelude.{◌≡◌, ◌<◌, length, slice_get, Some, IfOk};
 ghost use Rattle.wire_ids.specs.Rules.{first_rule};
-ghost use Rattle.agreements.specs.LookUps.{keys_of};
+ghost use Rattle.key_vault.specs.Table.{app_at, nwk_at};
 ghost use Rattle.entitlement.specs.Keys.{entries_of};
 ghost use Rattle.js_core.specs.Machine.{IsOf};
 ghost use Rattle.js_core.specs.Replies.{accept_of, app_s_key_answer, app_s_key_success, by_cause};
@@ -11,25 +11,25 @@ ghost use Rattle.js_core.specs.Replies.{no_facts, refused};
 ghost use Rattle.js_core.specs.Rules.{app_s_key_rules, join_rules};
 ghost use Rattle.js_core.specs.Step.{IsWithin};
 
-use crate::keys::answer_keys;
+use crate::keys::{answer_keys, application_key};
 use crate::rules::{app_s_key_target, join_target, unknown_refusal};
 use crate::{AcceptedJoin, Decision, State};
 use agreements::{DeviceRow, Tables};
 use backend_json::{
     Answer, AppSKeyAnswer, AppSKeyRequest, Head, JoinAnswer, JoinRequest, Message, Outcome,
-    Refusal, SessionKeyId,
+    Refusal, Request, SessionKeyId,
 };
 use entitlement::{AnswerKind, Facts, KeySet, keys_for, role_of};
 use join_frames::{Accept, AcceptKind, accept_bytes};
 use key_vault::{BlockFn, Vault};
 use std::alloc::Global;
-use wire_ids::{Memory, Moment, Radio, Seed, Text};
+use wire_ids::{Memory, Moment, Seed, Text};
 
-/// The answer of a request that is refused.
-pub(crate) fn refused(head: Option<Head>, refusal: Refusal) -> Answer
+/// The answer to a request that is refused.
+pub(crate) fn refused(head: Head, refusal: Refusal) -> Answer<'static>
     ensures { result ≡ refused head refusal }
 {
-    Answer {
+    Answer::Headed {
         head,
         outcome: Outcome::Refused(refusal),
     }
@@ -82,39 +82,35 @@ fn accept_of(request: &JoinRequest, row: &DeviceRow, seed: &Seed) -> Accept
         seed: copy_of(seed),
         net: row.home,
         addr: request.dev_addr,
-        radio: Radio {
-            dl: request.dl_settings,
-            rx_delay: request.rx_delay,
-            cf: request.cf_list,
-        },
+        radio: request.radio,
     }
 }
 
 // The answer to a join that is accepted.
 #[tactic(auto, unfolding(crate::specs::Replies::join_answer))]
-fn join_answer<E: BlockFn, D: BlockFn>(
+fn join_answer<'a, E: BlockFn, D: BlockFn>(
     alloc: Global,
-    tables: &Tables,
+    tables: &'a Tables,
     vault: &Vault<E, D>,
     head: Head,
     request: &JoinRequest,
     device: u32,
     row: &DeviceRow,
     seed: &Seed,
-) -> Result<Answer, Memory>
-    requires keys { vault.now ≡ map keys_of tables.now.devices }
+) -> Result<Answer<'a>, Memory>
+    requires keys { length vault.now ≡ length tables.now.devices }
     requires row { (device < length tables.now.devices)
         × (slice_get tables.now.devices device ≡ Some row.now) }
-    ensures { IfOk result (λ a. a
-        ≡ join_answer tables.now vault.now head request.now device row.now seed.now) }
+    ensures { IfOk result (λ a. a ≡ join_answer tables.now (nwk_at vault.now) (app_at vault.now)
+        head request.now device row.now seed.now) }
 {
-    let lifetime = tables.desk().lifetime_s;
-    let set = entitled_set(tables, &head, device, row, AnswerKind::JoinAns, lifetime);
     let frame = accept_bytes(vault, device, &accept_of(request, row, seed));
     let phy_payload = Text::of_slice(alloc, frame.as_slice())?;
-    let keys = answer_keys(alloc, tables, vault, device, row, seed, set)?;
-    Ok(Answer {
-        head: Some(head),
+    let lifetime = tables.desk().lifetime_s;
+    let set = entitled_set(tables, &head, device, row, AnswerKind::JoinAns, lifetime);
+    let keys = answer_keys(tables, vault, device, row, seed, set);
+    Ok(Answer::Headed {
+        head,
         outcome: Outcome::JoinAns(JoinAnswer {
             phy_payload,
             lifetime,
@@ -129,109 +125,109 @@ fn join_answer<E: BlockFn, D: BlockFn>(
 
 // The answer to an application that asks for a key that it gets.
 #[tactic(auto, unfolding(crate::specs::Replies::app_s_key_answer))]
-fn app_s_key_answer<E: BlockFn, D: BlockFn>(
-    alloc: Global,
-    tables: &Tables,
+fn app_s_key_answer<'a, E: BlockFn, D: BlockFn>(
+    tables: &'a Tables,
     vault: &Vault<E, D>,
     head: Head,
     request: &AppSKeyRequest,
     device: u32,
     row: &DeviceRow,
     seed: &Seed,
-) -> Result<Answer, Memory>
-    requires keys { vault.now ≡ map keys_of tables.now.devices }
+) -> Answer<'a>
+    requires keys { length vault.now ≡ length tables.now.devices }
     requires row { (device < length tables.now.devices)
         × (slice_get tables.now.devices device ≡ Some row.now) }
-    ensures { IfOk result (λ a. a
-        ≡ app_s_key_answer tables.now vault.now head request.now device row.now seed.now) }
+    ensures { result ≡ app_s_key_answer tables.now (app_at vault.now) head request.now
+        device row.now seed.now }
 {
     let set = entitled_set(tables, &head, device, row, AnswerKind::AppSKeyAns, 0);
-    let keys = answer_keys(alloc, tables, vault, device, row, seed, set)?;
-    Ok(Answer {
-        head: Some(head),
+    let app_s_key = application_key(tables, vault, device, row, seed, set);
+    Answer::Headed {
+        head,
         outcome: Outcome::AppSKeyAns(AppSKeyAnswer {
             dev_eui: request.dev_eui,
-            keys,
+            app_s_key,
             session_key_id: request.session_key_id,
         }),
-    })
+    }
 }
 
 // What a JoinReq comes to.
-fn join_decision<E: BlockFn, D: BlockFn>(
+fn join_decision<'a, E: BlockFn, D: BlockFn>(
     alloc: Global,
-    tables: &Tables,
+    tables: &'a Tables,
     vault: &Vault<E, D>,
     state: &State,
     head: Head,
     request: &JoinRequest,
-) -> Result<Decision, Memory>
-    requires keys { vault.now ≡ map keys_of tables.now.devices }
+) -> Result<Decision<'a>, Memory>
+    requires keys { length vault.now ≡ length tables.now.devices }
     requires rows { IsOf tables.now state.now }
     ensures value { IfOk result (λ d. d ≡ by_cause head
-        (first_rule (join_rules tables.now vault.now state.now head request.now))
-        (join_success tables.now vault.now state.now head request.now)) }
+        (first_rule (join_rules tables.now (nwk_at vault.now) state.now head request.now))
+        (join_success tables.now (nwk_at vault.now) (app_at vault.now) state.now
+        head request.now)) }
     ensures within { IfOk result (λ d. IsWithin (length state.now.devices) d) }
 {
     match join_target(tables, vault, state, &head, request) {
-        Err(refusal) => Ok(Decision::Reply(refused(Some(head), refusal))),
+        Err(refusal) => Ok(Decision::Reply(refused(head, refusal))),
         Ok((device, row, seed)) => {
-            let answer = join_answer(alloc, tables, vault, head, request, device, row, &seed)?;
-            Ok(Decision::Accept(answer, AcceptedJoin { device, seed }))
+            match join_answer(alloc, tables, vault, head, request, device, row, &seed) {
+                Ok(answer) => Ok(Decision::Accept(answer, AcceptedJoin { device, seed })),
+                Err(memory) => Err(memory),
+            }
         }
     }
 }
 
 // What an AppSKeyReq comes to.
-fn app_s_key_decision<E: BlockFn, D: BlockFn>(
-    alloc: Global,
-    tables: &Tables,
+fn app_s_key_decision<'a, E: BlockFn, D: BlockFn>(
+    tables: &'a Tables,
     vault: &Vault<E, D>,
     state: &State,
     head: Head,
     request: &AppSKeyRequest,
-) -> Result<Decision, Memory>
-    requires keys { vault.now ≡ map keys_of tables.now.devices }
+) -> Decision<'a>
+    requires keys { length vault.now ≡ length tables.now.devices }
     requires rows { IsOf tables.now state.now }
-    ensures value { IfOk result (λ d. d ≡ by_cause head
+    ensures value { result ≡ by_cause head
         (first_rule (app_s_key_rules tables.now state.now head request.now))
-        (app_s_key_success tables.now vault.now state.now head request.now)) }
-    ensures within { IfOk result (λ d. IsWithin (length state.now.devices) d) }
+        (app_s_key_success tables.now (app_at vault.now) state.now head request.now) }
+    ensures within { IsWithin (length state.now.devices) result }
 {
     match app_s_key_target(tables, state, &head, request) {
-        Err(refusal) => Ok(Decision::Reply(refused(Some(head), refusal))),
+        Err(refusal) => Decision::Reply(refused(head, refusal)),
         Ok((device, row, kept)) => {
             let seed = &kept.seed;
-            let answer = app_s_key_answer(alloc, tables, vault, head, request, device, row, seed)?;
-            Ok(Decision::Reply(answer))
+            Decision::Reply(app_s_key_answer(tables, vault, head, request, device, row, seed))
         }
     }
 }
 
 /// What a message comes to: it is refused for the first cause that holds, and else succeeds.
 #[tactic(auto, unfolding(crate::specs::Replies::decision_on))]
-pub(crate) fn decide<E: BlockFn, D: BlockFn>(
+pub(crate) fn decide<'a, E: BlockFn, D: BlockFn>(
     alloc: Global,
-    tables: &Tables,
+    tables: &'a Tables,
     vault: &Vault<E, D>,
     state: &State,
     message: Message,
-) -> Result<Decision, Memory>
-    requires keys { vault.now ≡ map keys_of tables.now.devices }
+) -> Result<Decision<'a>, Memory>
+    requires keys { length vault.now ≡ length tables.now.devices }
     requires rows { IsOf tables.now state.now }
-    ensures value { IfOk result (λ d. d ≡ decision_on tables.now vault.now state.now message) }
+    ensures value { IfOk result (λ d. d ≡ decision_on tables.now (nwk_at vault.now)
+        (app_at vault.now) state.now message.head message.request) }
     ensures within { IfOk result (λ d. IsWithin (length state.now.devices) d) }
 {
-    match message {
-        Message::JoinReq { head, request } => {
-            join_decision(alloc, tables, vault, state, head, &request)
+    let Message { head, request } = message;
+    match request {
+        Request::JoinReq(request) => { join_decision(alloc, tables, vault, state, head, &request) }
+        Request::AppSKeyReq(request) => {
+            Ok(app_s_key_decision(tables, vault, state, head, &request))
         }
-        Message::AppSKeyReq { head, request } => {
-            app_s_key_decision(alloc, tables, vault, state, head, &request)
-        }
-        Message::Unknown { head } => {
+        Request::Unknown => {
             let refusal = unknown_refusal(tables, &head);
-            Ok(Decision::Reply(refused(Some(head), refusal)))
+            Ok(Decision::Reply(refused(head, refusal)))
         }
     }
 }

@@ -10,7 +10,7 @@ pub struct AcceptedJoin {
 
 /// What a request comes to: an answer, and where a join is accepted what is to be kept of it.
 #[derive(Drop)]
-pub enum Decision {
-    Reply(Answer),
-    Accept(Answer, AcceptedJoin),
+pub enum Decision<'a> {
+    Reply(Answer<'a>),
+    Accept(Answer<'a>, AcceptedJoin),
 }

@@ -1,7 +1,9 @@
 //! Laws of the machine's step.
 
 ghost use Rattle.js_core.specs.Agreement.{AnswersAgree};
+ghost use Rattle.js_core.specs.AppKey.{AppKeyStays};
 ghost use Rattle.js_core.specs.Frames.{JoinFramesRead};
+ghost use Rattle.js_core.specs.Issues.{IssuedOnce, RepliesKeep};
 ghost use Rattle.js_core.specs.Rules.{CausesAscend};
 ghost use Rattle.js_core.specs.Step.{TooLongAlike};
 
@@ -23,4 +25,21 @@ pub fn join_frames_read()
 /// The rules of each message stand in the order of the table of refusals.
 pub fn causes_ascend()
     ensures { CausesAscend }
+{}
+
+/// The AppKey of a device reaches no answer but those to a receiver who is entitled to its AppSKey,
+/// and of these the AESKey of AppSKey alone.
+pub fn app_key_stays()
+    ensures { AppKeyStays }
+{}
+
+/// No JoinNonce is given to a device twice, and each DevNonce that is accepted of a device is above
+/// those before it.
+pub fn issued_once()
+    ensures { IssuedOnce }
+{}
+
+/// A refusal and an AppSKeyAns change nothing.
+pub fn replies_keep()
+    ensures { RepliesKeep }
 {}

@@ -1,10 +1,10 @@
 //! Who may send a request, and to whom.
 
 ghost use Rattle.std.specs.Prelude.{◌≡◌};
-ghost use Rattle.js_core.specs.Parties.{is_app, is_application, is_known, is_net, is_network};
-ghost use Rattle.js_core.specs.Parties.{is_own, is_own_join_server};
+ghost use Rattle.js_core.specs.Parties.{is_app, is_known, is_net, may_send, reaches};
 
 use agreements::Tables;
+use backend_json::{ReceiverKind, SenderKind};
 use wire_ids::{Eui, NetId, PeerId, Sender};
 
 /// Whether the sender has a row: a network, or an application or a gateway.
@@ -18,46 +18,35 @@ pub(crate) fn is_known(tables: &Tables, sender: Sender) -> bool
     }
 }
 
-/// Whether the receiver is the join server of one of the desk's JoinEUIs.
-#[tactic(auto, unfolding(crate::specs::Parties::is_own_join_server))]
-pub(crate) fn is_own_join_server(tables: &Tables, receiver: PeerId) -> bool
-    ensures { result ≡ is_own_join_server tables.now receiver }
+/// Whether the receiver is the desk, by a name of this kind.
+#[tactic(auto, unfolding(crate::specs::Parties::reaches))]
+pub(crate) fn reaches(tables: &Tables, kind: ReceiverKind, receiver: PeerId) -> bool
+    ensures { result ≡ reaches tables.now kind receiver }
 {
     match receiver {
-        PeerId::Network(_) => false,
+        PeerId::Network(net) => match kind {
+            ReceiverKind::JoinServer => false,
+            ReceiverKind::Any => net.get() == tables.desk().net_id.get(),
+        },
         PeerId::JoinServer(join_eui) => tables.desk().join_euis.contains(join_eui),
     }
 }
 
-/// Whether the receiver is the desk under one of its names.
-#[tactic(auto, unfolding(crate::specs::Parties::is_own))]
-pub(crate) fn is_own(tables: &Tables, receiver: PeerId) -> bool
-    ensures { result ≡ is_own tables.now receiver }
+/// Whether the sender is of this kind.
+#[tactic(auto, unfolding(crate::specs::Parties::may_send))]
+pub(crate) fn may_send(tables: &Tables, kind: SenderKind, sender: Sender) -> bool
+    ensures { result ≡ may_send tables.now kind sender }
 {
-    match receiver {
-        PeerId::Network(net) => net.get() == tables.desk().net_id.get(),
-        PeerId::JoinServer(join_eui) => tables.desk().join_euis.contains(join_eui),
-    }
-}
-
-/// Whether the sender is of the kind that sends joins.
-pub(crate) fn is_network(sender: Sender) -> bool
-    ensures { result ≡ is_network sender }
-{
-    match sender {
-        Sender::Network(_) => true,
-        Sender::Party(_) => false,
-    }
-}
-
-/// Whether the sender is of the kind that asks for application keys.
-#[tactic(auto, unfolding(crate::specs::Parties::is_application))]
-pub(crate) fn is_application(tables: &Tables, sender: Sender) -> bool
-    ensures { result ≡ is_application tables.now sender }
-{
-    match sender {
-        Sender::Network(_) => false,
-        Sender::Party(id) => tables.application(id).is_some(),
+    match kind {
+        SenderKind::Network => match sender {
+            Sender::Network(_) => true,
+            Sender::Party(_) => false,
+        },
+        SenderKind::Application => match sender {
+            Sender::Network(_) => false,
+            Sender::Party(id) => tables.application(id).is_some(),
+        },
+        SenderKind::Nobody => false,
     }
 }
 

@@ -1,12 +1,11 @@
 //! The rules by which requests are refused, each a test of its own.
 
-ghost use Rattle.std.specs.Prelude.{◌≡◌, ◌<◌, List, length, map, slice_get, is_none};
+ghost use Rattle.std.specs.Prelude.{◌≡◌, ◌<◌, ℕ, List, length, slice_get, is_none};
 ghost use Rattle.std.specs.Prelude.{IfErr, IfOk, IfSome, MatchOption, None, Some, true, false};
 ghost use Rattle.std.specs.List.{find};
 ghost use Rattle.std.specs.Option.{option_copied};
 ghost use Rattle.wire_ids.specs.Rules.{first_rule};
-ghost use Rattle.wire_ids.specs.declared.keys.RootKeys.{RootKeys};
-ghost use Rattle.agreements.specs.LookUps.{keys_of};
+ghost use Rattle.key_vault.specs.Table.{app_at, nwk_at};
 ghost use Rattle.js_core.specs.Frames.{join_frame_of};
 ghost use Rattle.js_core.specs.Machine.{IsOf};
 ghost use Rattle.js_core.specs.Replies.{accepted, app_s_key_reply, app_s_key_success};
@@ -19,9 +18,7 @@ ghost use Rattle.js_core.specs.Rules.{wrong_session};
 use crate::frames::{
     JoinFrame, is_cf_list, is_dl_settings, is_mac_version, join_frame, wrong_size,
 };
-use crate::parties::{
-    is_app, is_application, is_known, is_net, is_network, is_own, is_own_join_server,
-};
+use crate::parties::{is_app, is_known, is_net, may_send, reaches};
 use crate::{KeptDevice, KeptSeed, State};
 use agreements::{DeviceRow, Tables};
 use backend_json::{AppSKeyRequest, Head, JoinRequest, Refusal};
@@ -34,8 +31,8 @@ fn wrong_member(request: &JoinRequest, frame: &JoinFrame) -> bool
     ensures { result ≡ wrong_member request.now frame.now }
 {
     !is_mac_version(request.mac_version.as_slice())
-        || !is_dl_settings(request.dl_settings)
-        || !is_cf_list(&request.cf_list)
+        || !is_dl_settings(request.radio.dl)
+        || !is_cf_list(&request.radio.cf)
         || request.dev_eui.0 != frame.dev_eui.0
 }
 
@@ -78,7 +75,7 @@ fn wrong_mic<E: BlockFn, D: BlockFn>(
 ) -> bool
     requires row { device < length vault.now }
     requires size { length request.now.phy_payload ≡ 23 }
-    ensures { result ≡ wrong_mic vault.now request.now device }
+    ensures { result ≡ wrong_mic (nwk_at vault.now) request.now device }
 {
     let mut frame = [0; 23];
     frame.copy_from_slice(request.phy_payload.as_slice());
@@ -118,25 +115,29 @@ pub(crate) fn join_target<'a, E: BlockFn, D: BlockFn>(
     head: &Head,
     request: &JoinRequest,
 ) -> Result<(u32, &'a DeviceRow, Seed), Refusal>
-    requires keys { vault.now ≡ map keys_of tables.now.devices }
+    requires keys { length vault.now ≡ length tables.now.devices }
     requires rows { IsOf tables.now state.now }
     ensures refused { IfErr result (λ r.
-        first_rule (join_rules tables.now vault.now state.now head.now request.now) ≡ Some r) }
+        first_rule (join_rules tables.now (nwk_at vault.now) state.now head.now request.now)
+        ≡ Some r) }
     ensures accepted { IfOk result (λ t.
-        first_rule (join_rules tables.now vault.now state.now head.now request.now) ≡ None) }
+        first_rule (join_rules tables.now (nwk_at vault.now) state.now head.now request.now)
+        ≡ None) }
     ensures row { IfOk result (λ t. (t.0 < length tables.now.devices)
         × (slice_get tables.now.devices t.0 ≡ Some t.1.now)) }
     ensures success { IfOk result (λ t.
-        join_success tables.now vault.now state.now head.now request.now
-        ≡ accepted tables.now vault.now head.now request.now t.0 t.1.now t.2) }
+        join_success tables.now (nwk_at vault.now) (app_at vault.now) state.now
+        head.now request.now
+        ≡ accepted tables.now (nwk_at vault.now) (app_at vault.now)
+        head.now request.now t.0 t.1.now t.2) }
 {
     if !is_known(tables, head.sender) {
         return Err(Refusal::Sender);
     }
-    if !is_own_join_server(tables, head.receiver) {
+    if !reaches(tables, head.message_type.receiver(), head.receiver) {
         return Err(Refusal::Receiver);
     }
-    if !is_network(head.sender) {
+    if !may_send(tables, head.message_type.sender(), head.sender) {
         return Err(Refusal::Type);
     }
     if wrong_size(request.phy_payload.as_slice()) {
@@ -212,17 +213,17 @@ pub(crate) fn app_s_key_target<'a>(
         first_rule (app_s_key_rules tables.now state.now head.now request.now) ≡ None) }
     ensures row { IfOk result (λ t. (t.0 < length tables.now.devices)
         × (slice_get tables.now.devices t.0 ≡ Some t.1.now)) }
-    ensures success { IfOk result (λ t. (keys : List RootKeys)
-        → app_s_key_success tables.now keys state.now head.now request.now
-        ≡ app_s_key_reply tables.now keys head.now request.now t.0 t.1.now t.2.now.seed) }
+    ensures success { IfOk result (λ t. (app : ℕ → List ℕ)
+        → app_s_key_success tables.now app state.now head.now request.now
+        ≡ app_s_key_reply tables.now app head.now request.now t.0 t.1.now t.2.now.seed) }
 {
     if !is_known(tables, head.sender) {
         return Err(Refusal::Sender);
     }
-    if !is_own_join_server(tables, head.receiver) {
+    if !reaches(tables, head.message_type.receiver(), head.receiver) {
         return Err(Refusal::Receiver);
     }
-    if !is_application(tables, head.sender) {
+    if !may_send(tables, head.message_type.sender(), head.sender) {
         return Err(Refusal::Type);
     }
     let Some((device, row)) = tables.device(request.dev_eui) else {
@@ -245,7 +246,7 @@ pub(crate) fn unknown_refusal(tables: &Tables, head: &Head) -> Refusal
     if !is_known(tables, head.sender) {
         return Refusal::Sender;
     }
-    if !is_own(tables, head.receiver) {
+    if !reaches(tables, head.message_type.receiver(), head.receiver) {
         return Refusal::Receiver;
     }
     Refusal::Type

@@ -21,7 +21,8 @@ impl Model for State {
 
 ghost use Rattle.std.specs.Prelude.{◌≡◌, ◌<◌, length, map, slice_get, vec_len, IfOk, Some};
 ghost use Rattle.agreements.specs.declared.rows.DeviceRow as device_row;
-ghost use Rattle.js_core.specs.Machine.{IsOf, changed, joined, new_device, with_join};
+ghost use Rattle.wire_ids.specs.Lists.{changed};
+ghost use Rattle.js_core.specs.Machine.{IsOf, joined, new_device, with_join};
 ghost use Rattle.js_core.specs.Step.{fresh};
 
 // One new device for each row.

@@ -1,50 +1,57 @@
 //! The machine's step.
 
-ghost use Rattle.std.specs.Prelude.{◌≡◌, ◌<◌, length, map, IfOk, OnErr};
-ghost use Rattle.agreements.specs.LookUps.{keys_of};
-ghost use Rattle.backend_json.specs.Messages.{message_of};
+ghost use Rattle.std.specs.Prelude.{◌≡◌, ◌<◌, length, IfOk, OnErr};
 ghost use Rattle.js_core.specs.Agreement.{Agrees, StepsAgree};
 ghost use Rattle.js_core.specs.Machine.{IsOf};
-ghost use Rattle.js_core.specs.Replies.{bad_answer};
+ghost use Rattle.js_core.specs.Replies.{bad_answer, bad_member};
 ghost use Rattle.js_core.specs.Step.{answer_to, decided, state_after, IsWithin};
 
 use crate::decide::{decide, refused};
 use crate::laws::answers_agree;
 use crate::{Decision, State};
 use agreements::Tables;
-use backend_json::{Answer, Bad, Refusal, answer_text, read_message};
+use backend_json::{Answer, Bad, Head, Refusal, answer_text, read_message};
 use key_vault::{BlockFn, Vault};
 use std::alloc::Global;
 use wire_ids::{Memory, Text};
 
+// The answer to a message with a bad member.
+fn bad_member(head: Option<Head>) -> Answer<'static>
+    ensures { result ≡ bad_member head }
+{
+    match head {
+        None => Answer::Headless,
+        Some(head) => refused(head, Refusal::Message),
+    }
+}
+
 // The answer to a body that is no readable message.
-fn bad_answer(bad: Bad) -> Answer
+fn bad_answer(bad: Bad) -> Answer<'static>
     ensures { result ≡ bad_answer bad }
 {
     match bad {
-        Bad::NotJson | Bad::TooLong | Bad::Memory => refused(None, Refusal::Message),
-        Bad::Member { name: _, head } => refused(head, Refusal::Message),
-        Bad::Version { head } => refused(Some(head), Refusal::Version),
+        Bad::NotJson | Bad::TooLong => Answer::Headless,
+        Bad::Member { name: _, head } => bad_member(head),
+        Bad::Version { head } => refused(head, Refusal::Version),
     }
 }
 
 // What a line comes to.
 #[tactic(auto, unfolding(crate::specs::Step::decided))]
-fn decided<E: BlockFn, D: BlockFn>(
+fn decided<'a, E: BlockFn, D: BlockFn>(
     alloc: Global,
-    tables: &Tables,
+    tables: &'a Tables,
     vault: &Vault<E, D>,
     state: &State,
     line: &[u8],
-) -> Result<Decision, Memory>
-    requires keys { vault.now ≡ map keys_of tables.now.devices }
+) -> Result<Decision<'a>, Memory>
+    requires keys { length vault.now ≡ length tables.now.devices }
     requires rows { IsOf tables.now state.now }
     ensures value { IfOk result (λ d. d ≡ decided tables.now vault.now state.now line.now) }
     ensures within { IfOk result (λ d. IsWithin (length state.now.devices) d) }
 {
-    match read_message(alloc, line) {
+    match read_message(alloc, line)? {
         Ok(message) => decide(alloc, tables, vault, state, message),
-        Err(Bad::Memory) => Err(Memory),
         Err(bad) => Ok(Decision::Reply(bad_answer(bad))),
     }
 }
@@ -69,7 +76,7 @@ pub fn answer<E: BlockFn, D: BlockFn>(
     state: &mut State,
     line: &[u8],
 ) -> Result<Text, Memory>
-    requires keys { vault.now ≡ map keys_of tables.now.devices }
+    requires keys { length vault.now ≡ length tables.now.devices }
     requires rows { IsOf tables.now state.old }
     ensures text { IfOk result (λ t. t ≡ answer_to tables.now vault.now state.old line.now) }
     ensures agrees { Agrees tables.now vault.now state.old
@@ -80,9 +87,10 @@ pub fn answer<E: BlockFn, D: BlockFn>(
     ensures rows { IsOf tables.now state.new }
 {
     steps_agree(tables);
-    match decided(alloc, tables, vault, state, line)? {
-        Decision::Reply(answer) => answer_text(alloc, &answer),
-        Decision::Accept(answer, join) => {
+    match decided(alloc, tables, vault, state, line) {
+        Err(memory) => Err(memory),
+        Ok(Decision::Reply(answer)) => answer_text(alloc, &answer),
+        Ok(Decision::Accept(answer, join)) => {
             let text = answer_text(alloc, &answer)?;
             state.join(join.device, join.seed);
             Ok(text)

@@ -6,7 +6,7 @@ use Rattle.std.specs.Result.{result_map_both}
 use Rattle.hex.specs.Hex.{decode_sized, encode_lower, is_hex_digit}
 use Rattle.hex.specs.declared.error.FromHexError.{FromHexError}
 use Rattle.hex.specs.declared.error.FromHexError.TheVariants.{InvalidHexCharacter}
-use Rattle.wire_ids.specs.Numbers.{net_number, net_bytes}
+use Rattle.wire_ids.specs.Numbers.{net_number, three_bytes}
 use Rattle.wire_ids.specs.declared.eui.Eui.{Eui}
 use Rattle.wire_ids.specs.declared.address.DevAddr.{DevAddr}
 use Rattle.wire_ids.specs.declared.faults.IdFault.{IdFault}
@@ -44,8 +44,11 @@ abbrev pub addr_digits : DevAddr → List ℕ
 addr_digits addr = encode_lower (to_be_bytes w32 addr.0)
 
 -- the six digits of a number of 24 bits
+abbrev pub three_digits : ℕ → List ℕ
+three_digits n = encode_lower (three_bytes n)
+
 abbrev pub net_digits : ℕ → List ℕ
-net_digits net = encode_lower (net_bytes net)
+net_digits = three_digits
 
 -- the byte at the place is no digit, and all before it are
 abbrev pub IsFirstBad : List ℕ → ℕ → Type 0

@@ -3,3 +3,7 @@ pub mod Numbers
 pub mod Digits
 pub mod Addresses
 pub mod Rules
+pub mod Texts
+pub mod Lists
+pub mod Decisions
+pub mod Forms

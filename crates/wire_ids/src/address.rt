@@ -9,7 +9,7 @@ use crate::digits::id_bytes;
 use crate::{IdFault, NetId};
 
 /// A device's address in a network.
-#[derive(Clone, Copy, Debug, PartialEq, Eq)]
+#[derive(Clone, Copy, Debug, Default, PartialEq, Eq)]
 pub struct DevAddr(pub u32);
 
 impl DevAddr {

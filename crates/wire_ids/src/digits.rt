@@ -4,7 +4,9 @@ ghost use Rattle.wire_ids.specs.Digits.{id_bytes, without_prefix};
 use crate::IdFault;
 use hex::{FromHex, FromHexError};
 
-fn without_prefix(text: &[u8]) -> &[u8]
+/// The text behind one leading `0x` or `0X`, or the whole text where it begins with neither: the
+/// digits of every hexadecimal text that is read (TS002-1.1.0).
+pub fn without_prefix(text: &[u8]) -> &[u8]
     ensures { result.now ≡ without_prefix text.now }
 {
     if text.len() >= 2 && text[0] == b'0' && (text[1] == b'x' || text[1] == b'X') {

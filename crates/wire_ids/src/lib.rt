@@ -2,6 +2,8 @@
 #![tactic(auto)]
 
 mod address;
+mod bounded;
+mod decision;
 mod digits;
 mod eui;
 mod faults;
@@ -19,6 +21,9 @@ mod text;
 mod three;
 
 pub use address::{DevAddr, address_of, net_matches};
+pub use bounded::{BoundedText, LongText, ShortText};
+pub use decision::Decision;
+pub use digits::without_prefix;
 pub use eui::Eui;
 pub use faults::{FrameFault, IdFault};
 pub use keys::{RootKeys, Seed, SessionKeys};

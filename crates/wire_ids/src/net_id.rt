@@ -4,7 +4,7 @@ use crate::three::{be_bytes, be_number, wire_bytes, wire_number};
 use std::marker::Model;
 
 /// The name of a network, of 24 bits. Contracts see it as that number.
-#[derive(Clone, Copy, Debug, PartialEq, Eq)]
+#[derive(Clone, Copy, Debug, Default, PartialEq, Eq)]
 pub struct NetId {
     bits: u32,
 }
@@ -77,7 +77,8 @@ impl NetId {
 
     /// The network of these bytes of a frame, the lowest first.
     pub fn from_wire(bytes: [u8; 3]) -> NetId
-        ensures { result ≡ wire_number bytes }
+        ensures number { result ≡ wire_number bytes }
+        ensures bytes { wire_bytes result ≡ bytes }
     {
         NetId {
             bits: wire_number(bytes),

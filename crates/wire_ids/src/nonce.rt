@@ -2,7 +2,7 @@ use crate::three::{be_bytes, be_number, wire_bytes, wire_number};
 use std::marker::Model;
 
 /// A JoinNonce: a number of 24 bits (LoRaWAN 1.1, 6.2.3). Contracts see it as that number.
-#[derive(Clone, Copy, Debug, PartialEq, Eq)]
+#[derive(Clone, Copy, Debug, Default, PartialEq, Eq)]
 pub struct Nonce24 {
     number: u32,
 }
@@ -20,8 +20,8 @@ impl Model for Nonce24 {
 }
 
 ghost use Rattle.std.specs.Prelude.{◌≡◌, ◌<◌, ◌^◌, Some, None, if◌then◌else◌, nat_lt};
-ghost use Rattle.wire_ids.specs.Digits.{net_digits};
-ghost use Rattle.wire_ids.specs.Numbers.{net_number, wire_bytes, wire_number};
+ghost use Rattle.wire_ids.specs.Digits.{three_digits};
+ghost use Rattle.wire_ids.specs.Numbers.{three_number, wire_bytes, wire_number};
 
 impl Nonce24 {
     /// The JoinNonce of this number, or None exactly from 2^24 on.
@@ -45,7 +45,7 @@ impl Nonce24 {
 
     /// The JoinNonce whose number has these bytes, the highest first.
     pub fn from_be_bytes(bytes: [u8; 3]) -> Nonce24
-        ensures { result ≡ net_number bytes }
+        ensures { result ≡ three_number bytes }
     {
         Nonce24 {
             number: be_number(bytes),
@@ -54,7 +54,7 @@ impl Nonce24 {
 
     /// Its 6 digits in lower case, the highest first.
     pub fn to_hex(self) -> [u8; 6]
-        ensures { result ≡ net_digits self }
+        ensures { result ≡ three_digits self }
     {
         let mut digits = [0; 6];
         let _ = hex::encode_to_slice(be_bytes(self.number), &mut digits);
@@ -63,7 +63,8 @@ impl Nonce24 {
 
     /// The JoinNonce of these bytes of a frame, the lowest first (LoRaWAN 1.1, 6.2.3).
     pub fn from_wire(bytes: [u8; 3]) -> Nonce24
-        ensures { result ≡ wire_number bytes }
+        ensures number { result ≡ wire_number bytes }
+        ensures bytes { wire_bytes result ≡ bytes }
     {
         Nonce24 {
             number: wire_number(bytes),

@@ -1,34 +1,39 @@
-use crate::{DevAddr, Eui, IdFault, NetId, Nonce24, Text, address_of, net_matches};
+use crate::{
+    BoundedText, Decision, DevAddr, Eui, IdFault, NetId, Nonce24, PeerId, ShortText, Text,
+    address_of, net_matches, without_prefix,
+};
 use std::process::Abort;
 use std::test::Fail;
 
-fn expect_address(rt: &impl Abort, net: u32, n: u32, want: Option<DevAddr>) {
+fn expect_address(rt: &impl Abort, net: u32, n: u32, want: Option<u32>) {
     match NetId::new(net) {
-        Some(net) => assert_eq!(rt; address_of(net, n), want),
+        Some(net) => {
+            assert_eq!(rt; address_of(net, n), want.map(DevAddr));
+            if let Some(addr) = want {
+                assert!(rt; net_matches(DevAddr(addr), net));
+                assert!(rt; !net_matches(DevAddr(addr ^ 0x02000000), net));
+            }
+        }
         None => assert!(rt; false),
     }
 }
 
+// The rows are those of the table of NetID types (TS002-1.1.0).
 #[test]
 fn a_network_has_the_addresses_that_its_type_leaves(rt: HostRuntime) -> Result<(), Fail> {
-    expect_address(&rt, 0x000013, 1, Some(DevAddr(0x26000001)));
-    expect_address(&rt, 0x600005, 0, Some(DevAddr(0xe00a0000)));
-    expect_address(&rt, 0xe00001, 127, Some(DevAddr(0xfe0000ff)));
-    expect_address(&rt, 0xe00001, 128, None);
-    Ok(())
-}
-
-#[test]
-fn an_address_matches_its_own_network(rt: HostRuntime) -> Result<(), Fail> {
-    let net = NetId::new(0x14).ok_or("bits")?;
-    assert!(rt; net_matches(DevAddr(0x28000001), net));
-    assert!(rt; !net_matches(DevAddr(0x26000001), net));
-    Ok(())
-}
-
-#[test]
-fn a_net_id_has_no_more_than_24_bits(rt: HostRuntime) -> Result<(), Fail> {
+    for (net, n, want) in [
+        (0x000013, 1, Some(0x26000001)),
+        (0x000014, 1, Some(0x28000001)),
+        (0x600005, 0, Some(0xe00a0000)),
+        (0xc00003, 1023, Some(0xfc000fff)),
+        (0xc00003, 1024, None),
+        (0xe00001, 127, Some(0xfe0000ff)),
+        (0xe00001, 128, None),
+    ] {
+        expect_address(&rt, net, n, want);
+    }
     assert_eq!(rt; NetId::new(0x1000000), None);
+    assert_eq!(rt; Nonce24::new(0x1000000), None);
     Ok(())
 }
 
@@ -101,9 +106,28 @@ fn is_send<T: Send>(value: T) -> T {
 }
 
 #[test]
-fn a_text_can_be_sent_and_equals_one_of_the_same_bytes(rt: HostRuntime) -> Result<(), Fail> {
+fn texts_can_be_sent_and_are_equal_where_their_bytes_are(rt: HostRuntime) -> Result<(), Fail> {
     let text = is_send(Text::of_slice(rt.alloc(), b"desk")?);
     assert_eq!(rt; text, Text::new(b"desk".to_vec(rt.alloc())?));
     assert!(rt; !text.is_empty());
+    let short = is_send(ShortText::of_slice(rt.alloc(), b"desk")?);
+    assert_eq!(rt; short, ShortText::new(text.into_vec()));
+    let four = BoundedText::<4>::of_slice(rt.alloc(), b"desk")?;
+    assert_eq!(rt; four.map(|t| t.len()), Some(4));
+    assert_eq!(rt; BoundedText::<3>::of_slice(rt.alloc(), b"desk")?, None);
+    assert_eq!(rt; without_prefix(b"0X0x12"), b"0x12".as_slice());
+    Ok(())
+}
+
+#[test]
+fn a_decision_lends_its_entry(rt: HostRuntime) -> Result<(), Fail> {
+    let peer = PeerId::JoinServer(Eui(1));
+    for (decision, want) in [
+        (Decision::Reply(1), None),
+        (Decision::Accept(1, 2), Some(2)),
+        (Decision::AskPeer(peer, 3, 4), Some(4)),
+    ] {
+        assert_eq!(rt; decision.entry().copied(), want);
+    }
     Ok(())
 }

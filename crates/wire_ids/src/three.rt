@@ -1,9 +1,9 @@
 // Numbers of 24 bits, as three bytes.
 ghost use Rattle.std.specs.Prelude.{◌≡◌, ◌<◌, ◌^◌};
-ghost use Rattle.wire_ids.specs.Numbers.{net_bytes, net_number, wire_bytes, wire_number};
+ghost use Rattle.wire_ids.specs.Numbers.{three_bytes, three_number, wire_bytes, wire_number};
 
 pub(crate) fn be_number(bytes: [u8; 3]) -> u32
-    ensures number { result ≡ net_number bytes }
+    ensures number { result ≡ three_number bytes }
     ensures small { result < 2 ^ 24 }
 {
     let [high, middle, low] = bytes;
@@ -12,6 +12,7 @@ pub(crate) fn be_number(bytes: [u8; 3]) -> u32
 
 pub(crate) fn wire_number(bytes: [u8; 3]) -> u32
     ensures number { result ≡ wire_number bytes }
+    ensures back { wire_bytes result ≡ bytes }
     ensures small { result < 2 ^ 24 }
 {
     let [low, middle, high] = bytes;
@@ -19,7 +20,7 @@ pub(crate) fn wire_number(bytes: [u8; 3]) -> u32
 }
 
 pub(crate) fn be_bytes(number: u32) -> [u8; 3]
-    ensures { result ≡ net_bytes number }
+    ensures { result ≡ three_bytes number }
 {
     [
         (number / 65536 % 256) as u8,

@@ -1,5 +1,5 @@
 use Rattle.std.proofs.Common.{arith}
-use Rattle.backend_json.proofs.Escapes.{plain_step}
+use Rattle.backend_json.proofs.Digits.{plain_step}
 use Rattle.backend_json.proofs.writing.is_plain.Goals as goal
 
 pub loop-byte-preserved : goal.loop-byte-preserved

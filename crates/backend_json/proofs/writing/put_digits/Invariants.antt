@@ -1,7 +1,0 @@
-use Rattle.std.proofs.Common.{◌≡◌, ◌++◌, drop}
-use Rattle.hex.specs.Hex.{encode_lower}
-use Rattle.json.specs.Print.{escape}
-use Rattle.backend_json.proofs.writing.put_digits.Given as goal
-
-abbrev pub invariant-loop-byte : goal.invariant-loop-byte
-invariant-loop-byte l = l.out.items ++ escape (encode_lower (drop l.byte-index l.bytes)) ≡ l.fn.out.items ++ escape (encode_lower l.bytes)

@@ -1,0 +1,91 @@
+ghost use Rattle.std.specs.Prelude.{◌≡◌};
+ghost use Rattle.backend_json.specs.Types.{answer_name, name_of, receiver_of, sender_of, type_named};
+ghost use Rattle.backend_json.specs.Types.{type_row};
+
+/// Of which kind the senders of a message are.
+#[derive(Clone, Copy, Debug, PartialEq, Eq)]
+pub enum SenderKind {
+    Network,
+    Application,
+    /// No one sends it.
+    Nobody,
+}
+
+/// By which of its names a message reaches the desk.
+#[derive(Clone, Copy, Debug, PartialEq, Eq)]
+pub enum ReceiverKind {
+    /// One of its JoinEUIs.
+    JoinServer,
+    /// Its NetID or one of its JoinEUIs.
+    Any,
+}
+
+/// The MessageType of a request (TS002, Messages and Payloads).
+#[derive(Clone, Copy, Debug, PartialEq, Eq)]
+pub enum MessageType {
+    JoinReq,
+    AppSKeyReq,
+    /// A type that isn't served.
+    Unknown,
+}
+
+// The types that are served.
+const SERVED: [MessageType; 2] = [MessageType::JoinReq, MessageType::AppSKeyReq];
+
+impl MessageType {
+    // The table of the types: name, the answer's name, and the kinds of sender and receiver.
+    #[tactic(auto, unfolding(crate::specs::Types::type_row))]
+    fn row(self) -> (&'static str, &'static str, SenderKind, ReceiverKind)
+        ensures name { result.0.now ≡ (type_row self).name }
+        ensures answer { result.1.now ≡ (type_row self).answer }
+        ensures sender { result.2 ≡ (type_row self).sender }
+        ensures receiver { result.3 ≡ (type_row self).receiver }
+    {
+        use ReceiverKind::{Any, JoinServer};
+        use SenderKind::{Application, Network, Nobody};
+        match self {
+            MessageType::JoinReq => ("JoinReq", "JoinAns", Network, JoinServer),
+            MessageType::AppSKeyReq => ("AppSKeyReq", "AppSKeyAns", Application, JoinServer),
+            MessageType::Unknown => ("", "ErrorNotif", Nobody, Any),
+        }
+    }
+
+    // As it is written, where it is served.
+    fn name(self) -> &'static str
+        ensures { result.now ≡ name_of self }
+    {
+        self.row().0
+    }
+
+    /// The type of this name, byte for byte, and Unknown where none that is served has it.
+    pub fn named(name: &[u8]) -> MessageType
+        ensures { result ≡ type_named name.now }
+    {
+        match SERVED.iter().find(|kind| kind.name().as_bytes() == name) {
+            Some(kind) => *kind,
+            None => MessageType::Unknown,
+        }
+    }
+
+    /// The MessageType of its answers: its name with Ans for Req, and ErrorNotif where it isn't
+    /// served.
+    pub fn answer_name(self) -> &'static str
+        ensures { result.now ≡ answer_name self }
+    {
+        self.row().1
+    }
+
+    /// Of which kind its senders are.
+    pub fn sender(self) -> SenderKind
+        ensures { result ≡ sender_of self }
+    {
+        self.row().2
+    }
+
+    /// By which of its names it reaches the desk.
+    pub fn receiver(self) -> ReceiverKind
+        ensures { result ≡ receiver_of self }
+    {
+        self.row().3
+    }
+}

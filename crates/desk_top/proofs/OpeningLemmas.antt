@@ -1,9 +1,7 @@
 -- Why tables weren't opened.
 use Rattle.std.proofs.Common.{◌≡◌, ℕ, List, Option, Err}
-use Rattle.std.specs.Prelude.{◌≢◌}
 use Rattle.agreements.specs.Walk.{tables_of}
 use Rattle.agreements.specs.declared.fault.TablesFault.{TablesFault}
-use Rattle.agreements.specs.declared.fault.TablesFault.TheVariants as refusals
 use Rattle.desk_top.specs.Opening.{Tells, Unopened}
 use Rattle.desk_top.specs.Text.{ReadsText, text_room}
 use Rattle.desk_top.specs.declared.fault.Fault.{Fault}
@@ -11,9 +9,9 @@ use Rattle.desk_top.specs.declared.fault.Fault.TheVariants.{Usage, Refused, Tabl
 use Rattle.desk_top.proofs.Texts.{tables_read}
 
 pub refusal_told : (text : Option (List ℕ)) (bytes : List ℕ) (before now : ℕ) (refusal : TablesFault) (e : Fault) → ReadsText text_room text bytes
-    → (refusal ≢ refusals.Memory → tables_of bytes ≡ Err refusal) → Tells refusal e → Unopened text before now e
+    → tables_of bytes ≡ Err refusal → Tells refusal e → Unopened text before now e
 refusal_told text bytes before now refusal Usage reads said told = absurd told
-refusal_told text bytes before now refusal (Refused line) reads said told = (refusal, told.0, tables_read text bytes (Err refusal) reads (said told.0), told.1)
+refusal_told text bytes before now refusal (Refused line) reads said told = (refusal, tables_read text bytes (Err refusal) reads said, told)
 refusal_told text bytes before now refusal TablesRead reads said told = absurd told
 refusal_told text bytes before now refusal InputRead reads said told = absurd told
 refusal_told text bytes before now refusal Write reads said told = absurd told

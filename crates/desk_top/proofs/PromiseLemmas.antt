@@ -54,7 +54,7 @@ done_all : {S T O : Type 0} (run : Run S T O) (end : End) (command : Command) (c
     → ¬ Rose run.tables.faults run.tables_after.faults → ¬ Rose run.input.faults run.input_after.faults → ¬ Rose run.out.faults run.out_after.faults → IsDone end
 done_all run (Ok u) command config used cause did takes has room a b c = tt
 done_all run (Err Usage) command config used cause did takes has room a b c = used refl
-done_all run (Err (Refused line)) command config used cause did takes has room a b c = not_both run.tables.bytes config cause.0 has cause.2
+done_all run (Err (Refused line)) command config used cause did takes has room a b c = not_both run.tables.bytes config cause.0 has cause.1
 done_all run (Err TablesRead) command config used cause did takes has room a b c = a cause
 done_all run (Err InputRead) command config used cause did takes has room a b c = b cause
 done_all run (Err Write) command config used cause did takes has room a b c = c cause

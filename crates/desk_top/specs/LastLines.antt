@@ -1,5 +1,5 @@
 -- The lines that the program itself prints, with their ends.
-use Rattle.std.specs.Prelude.{ℕ, List, [], ◌∷◌, ◌++◌, length, codes, Option, unwrap_or, ◌⊎◌}
+use Rattle.std.specs.Prelude.{ℕ, List, [], ◌∷◌, ◌++◌, length, codes, Option, ◌⊎◌}
 use Rattle.std.specs.Fmt.{decimal}
 use Rattle.std.specs.Io.KnownBytes.{Appends}
 use Rattle.wire_ids.specs.Causes.{Rose}
@@ -16,9 +16,9 @@ abbrev pub path_or_dash : List ℕ → List ℕ
 path_or_dash [] = codes "-"
 path_or_dash (b ∷ bs) = b ∷ bs
 
--- what is printed of tables that are refused; want of memory, which is no refusal, has no number
+-- what is printed of tables that are refused
 abbrev pub refused_line : TablesFault → List ℕ
-refused_line fault = ((codes "lwdesk: tables " ++ (decimal (unwrap_or (fault_number fault) 0) ++ codes " ")) ++ path_or_dash (fault_path fault)) ++ 10 ∷ []
+refused_line fault = ((codes "lwdesk: tables " ++ (decimal (fault_number fault) ++ codes " ")) ++ path_or_dash (fault_path fault)) ++ 10 ∷ []
 
 -- what is printed of tables that are valid
 abbrev pub counts_line : Config → List ℕ

@@ -51,7 +51,7 @@ fn path_or_dash(path: &[u8]) -> &[u8]
 pub(crate) fn refused_text(alloc: Global, fault: &TablesFault) -> Result<Vec<u8>, AllocError>
     ensures { IfOk result (λ line. line.items ≡ refused_line fault.now) }
 {
-    let number = fault.number().unwrap_or(0);
+    let number = fault.number();
     let mut line = format!(in alloc; "lwdesk: tables {number} ")?.into_bytes();
     line.extend_from_slice(path_or_dash(fault.path()))?;
     with_end(line)

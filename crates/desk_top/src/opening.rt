@@ -9,7 +9,7 @@ ghost use Rattle.desk_top.specs.Text.{ReadsText, ReadsTables, text_room};
 
 use crate::fault::Fault;
 use crate::last_line::refused_text;
-use agreements::{Tables, TablesFault, read_tables};
+use agreements::{Tables, TablesFault, Unread, read_tables};
 use disk_model::Source;
 use js_core::steps_agree;
 use std::alloc::Global;
@@ -73,15 +73,12 @@ fn read_text<S: Source>(alloc: Global, most: usize, source: &mut S) -> Result<Ve
 }
 
 // Why there are no tables.
-fn refused(alloc: Global, refusal: TablesFault) -> Fault
-    ensures { Tells refusal result }
+fn refused(alloc: Global, refusal: &TablesFault) -> Fault
+    ensures { Tells refusal.now result }
 {
-    match refusal {
-        TablesFault::Memory => Fault::Memory,
-        refusal => match refused_text(alloc, &refusal) {
-            Ok(line) => Fault::Refused(line),
-            Err(_) => Fault::Memory,
-        },
+    match refused_text(alloc, refusal) {
+        Ok(line) => Fault::Refused(line),
+        Err(_) => Fault::Memory,
     }
 }
 
@@ -100,6 +97,7 @@ pub(crate) fn open_tables<S: Source>(alloc: Global, source: &mut S) -> Result<Ta
             steps_agree(&tables);
             Ok(tables)
         }
-        Err(refusal) => Err(refused(alloc, refusal)),
+        Err(Unread::Refused(refusal)) => Err(refused(alloc, &refusal)),
+        Err(Unread::Memory) => Err(Fault::Memory),
     }
 }

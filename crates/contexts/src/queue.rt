@@ -1,7 +1,8 @@
 ghost use Rattle.std.specs.Prelude.{◌≡◌, OnErr, OnOk};
 ghost use Rattle.std.specs.Option.{option_copied};
 ghost use Rattle.std.specs.Result.{result_err};
-ghost use Rattle.contexts.specs.Queue.{confirmed_by, drawn, first_of, item_fault, next_of, pushed, taken};
+ghost use Rattle.contexts.specs.Queue.{confirmed_by, drawn, first_of, item_fault, next_of};
+ghost use Rattle.contexts.specs.Queue.{pushed, taken};
 ghost use Rattle.contexts.specs.Sound.{IsSoundContext};
 
 use crate::{Context, Item};

@@ -1,6 +1,8 @@
-pub mod Steps
+pub mod Keys
 pub mod Forms
+pub mod Steps
+pub mod Index
 pub mod Rows
 pub mod Walk
 pub mod LookUps
-pub mod Index
+pub mod Sound

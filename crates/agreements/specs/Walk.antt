@@ -1,5 +1,5 @@
 -- The walk: what a text's tables are, or the first fault on the way through it.
-use Rattle.std.specs.Prelude.{◌≡◌, ◌≢◌, ℕ, nat_lt, if◌then◌else◌, List, [], ◌++◌, length, codes, Option, Some, None, is_some, Result, Ok, Err}
+use Rattle.std.specs.Prelude.{◌≡◌, ℕ, nat_lt, if◌then◌else◌, List, [], ◌++◌, length, codes, Option, Some, None, is_some, Result, Ok, Err}
 use Rattle.std.specs.Fmt.{decimal}
 use Rattle.std.specs.List.{list_all}
 use Rattle.std.specs.Str.{is_utf8}
@@ -10,29 +10,28 @@ use Rattle.agreements.specs.declared.fault.TablesFault.TheVariants as fault
 use Rattle.agreements.specs.declared.flaw.Why.{Why}
 use Rattle.agreements.specs.declared.flaw.Why.TheVariants as why
 use Rattle.agreements.specs.declared.flaw.Flaw.{Flaw}
-use Rattle.agreements.specs.declared.flaw.Flaw.TheVariants.{Key, Element, Memory}
+use Rattle.agreements.specs.declared.key.Key.{Key}
+use Rattle.agreements.specs.declared.unread.Unread.{Unread}
+use Rattle.agreements.specs.declared.unread.Unread.TheVariants.{Refused, Memory}
 use Rattle.agreements.specs.declared.rows.DeskRow.{DeskRow}
 use Rattle.agreements.specs.declared.rows.NetworkRow.{NetworkRow}
 use Rattle.agreements.specs.declared.rows.AgreementRow.{AgreementRow}
-use Rattle.agreements.specs.declared.rows.ApplicationRow.{ApplicationRow}
 use Rattle.agreements.specs.declared.rows.JoinServerRow.{JoinServerRow}
-use Rattle.agreements.specs.declared.rows.GatewayRow.{GatewayRow}
-use Rattle.agreements.specs.declared.rows.DeviceRow.{DeviceRow}
+use Rattle.agreements.specs.declared.sections.Sections.{Sections}
 use Rattle.agreements.specs.Rows.{desk_in, network_in, agreement_in, join_server_in, application_in, gateway_in, device_in}
 use Rattle.agreements.specs.Forms.{array_of}
-use Rattle.agreements.specs.Steps.{Spot, ◌>>=◌, all_after, element_path}
+use Rattle.agreements.specs.Keys.{key_name}
+use Rattle.agreements.specs.Steps.{◌>>=◌, all_after, numbered}
 
--- what a text says
-pub record Config : Type 0 where
-  pub desk : DeskRow
-  pub networks : List NetworkRow
-  pub agreements : List AgreementRow
-  pub join_servers : List JoinServerRow
-  pub applications : List ApplicationRow
-  pub gateways : List GatewayRow
-  pub devices : List DeviceRow
+-- what a text says: the desk's row, and the list of the rows of each other section
+abbrev pub Config : Type 0
+Config = Sections
 
--- `desk.key`, or `section[3].key`
+abbrev pub key_path : Key → Option ℕ → List ℕ
+key_path key None = key_name key
+key_path key (Some place) = key_name key ++ (codes "[" ++ (decimal place ++ codes "]"))
+
+-- `desk.key`, or `section[3].key`; an element of an array is `key[1]`
 abbrev pub path_of : List ℕ → Option ℕ → List ℕ → List ℕ
 path_of section None key = section ++ (codes "." ++ key)
 path_of section (Some row) key = section ++ (codes "[" ++ (decimal row ++ (codes "]." ++ key)))
@@ -43,15 +42,18 @@ fault_of why.BadValue path = fault.BadValue path
 fault_of why.Twice path = fault.Twice path
 fault_of why.NoSuch path = fault.NoSuch path
 
--- a fault's number, which want of memory hasn't
-abbrev pub fault_number : TablesFault → Option ℕ
-fault_number fault.NotToml = Some 1
-fault_number (fault.Missing path) = Some 2
-fault_number (fault.BadValue path) = Some 3
-fault_number (fault.Twice path) = Some 4
-fault_number (fault.NoSuch path) = Some 5
-fault_number (fault.TooMany path limit) = Some 6
-fault_number fault.Memory = None
+-- the fault of a row
+abbrev pub fault_in : List ℕ → Option ℕ → Flaw → TablesFault
+fault_in section row flaw = fault_of flaw.why (path_of section row (key_path flaw.key flaw.place))
+
+-- a fault's number
+abbrev pub fault_number : TablesFault → ℕ
+fault_number fault.NotToml = 1
+fault_number (fault.Missing path) = 2
+fault_number (fault.BadValue path) = 3
+fault_number (fault.Twice path) = 4
+fault_number (fault.NoSuch path) = 5
+fault_number (fault.TooMany path limit) = 6
 
 -- where a fault is, empty where it has no place
 abbrev pub fault_path : TablesFault → List ℕ
@@ -61,16 +63,6 @@ fault_path (fault.BadValue path) = path
 fault_path (fault.Twice path) = path
 fault_path (fault.NoSuch path) = path
 fault_path (fault.TooMany path limit) = path
-fault_path fault.Memory = []
-
--- a row's reading, with its fault at its place
-abbrev pub in_place : {A : Type 0} → List ℕ → Option ℕ → Result A Spot → Result A TablesFault
-in_place section row (Ok a) = Ok a
-in_place section row (Err spot) = Err (fault_of spot.0 (path_of section row spot.1))
-
--- one more row, with its fault at its number
-abbrev pub next_row : {R : Type 0} → List ℕ → (List R → Data → Result R Spot) → List R → Data → Result R TablesFault
-next_row section row_in before d = in_place section (Some (length before)) (row_in before d)
 
 -- tables, of at most the limit
 abbrev pub tables_within : List ℕ → ℕ → List Data → Result (List Data) TablesFault
@@ -86,14 +78,23 @@ abbrev pub section_in : List ℕ → ℕ → Option Data → Result (List Data) 
 section_in section limit None = Ok []
 section_in section limit (Some d) = array_within section limit (array_of d)
 
-abbrev pub rows_in : {R : Type 0} → List ℕ → ℕ → (List R → Data → Result R Spot) → Members → Result (List R) TablesFault
+-- the rows of a section, with the fault of a row at its number
+abbrev pub in_section : {A : Type 0} → List ℕ → Result A (ℕ × Flaw) → Result A TablesFault
+in_section section (Ok rows) = Ok rows
+in_section section (Err at) = Err (fault_in section (Some at.0) at.1)
+
+abbrev pub rows_in : {R : Type 0} → List ℕ → ℕ → (List R → Data → Result R Flaw) → Members → Result (List R) TablesFault
 rows_in section limit row_in doc = do
   ds ← section_in section limit (get_member section doc)
-  all_after (next_row section row_in) [] ds
+  in_section section (all_after (numbered row_in) [] ds)
+
+abbrev pub in_desk : {A : Type 0} → Result A Flaw → Result A TablesFault
+in_desk (Ok row) = Ok row
+in_desk (Err flaw) = Err (fault_in (codes "desk") None flaw)
 
 abbrev pub desk_at : Option Data → Result DeskRow TablesFault
 desk_at None = Err (fault.Missing (codes "desk"))
-desk_at (Some d) = if is_some (as_table d) then in_place (codes "desk") None (desk_in d) else Err (fault.BadValue (codes "desk"))
+desk_at (Some d) = if is_some (as_table d) then in_desk (desk_in d) else Err (fault.BadValue (codes "desk"))
 
 -- the applications, gateways and devices, after the sections before them
 unfoldable pub parties_in : DeskRow → List NetworkRow → List AgreementRow → List JoinServerRow → Members → Result Config TablesFault
@@ -123,12 +124,7 @@ tables_at (Some doc) = tables_in doc
 unfoldable pub tables_of : List ℕ → Result Config TablesFault
 tables_of text = if nat_lt 4194304 (length text) then Err (fault.TooMany (codes "text") 4194304) else tables_at (document_of text)
 
--- the fault that the code made of a row's flaw
-abbrev pub Reports : List ℕ → Option ℕ → Flaw → TablesFault → Type 0
-Reports section row Memory e = e ≡ fault.Memory
-Reports section row (Key why key) e = e ≢ fault.Memory → e ≡ fault_of why (path_of section row key.now)
-Reports section row (Element why key place) e = e ≢ fault.Memory → e ≡ fault_of why (path_of section row (element_path key.now place))
-
--- the walk stops at this fault, unless memory was wanting
-abbrev pub StopsAt : {A : Type 0} → Result A TablesFault → TablesFault → Type 0
-StopsAt walk e = e ≢ fault.Memory → walk ≡ Err e
+-- the code's stop is this fault, or want of memory
+abbrev pub IsFault : TablesFault → Unread TablesFault → Type 0
+IsFault fault (Refused e) = e ≡ fault
+IsFault fault Memory = Unit {0}

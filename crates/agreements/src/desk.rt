@@ -1,58 +1,56 @@
+ghost use Rattle.std.specs.Prelude.{◌≡◌, ◌≤◌, List, IfSome, length, map, option_map};
+ghost use Rattle.std.specs.Borrow.{Bor};
 ghost use Rattle.toml.specs.View.{view};
 ghost use Rattle.toml.specs.declared.value.Value as toml_value;
-ghost use Rattle.std.specs.Borrow.{Bor};
-ghost use Rattle.std.specs.Prelude.{map, option_map, [], List, ◌≡◌};
 ghost use Rattle.agreements.specs.Rows.{desk_in, eui_array, join_euis_in, next_eui};
-ghost use Rattle.agreements.specs.Steps.{Gives, all_after, data_of};
+ghost use Rattle.agreements.specs.Steps.{Gives};
 
-use crate::flaw::{Flaw, Why};
-use crate::form::{array_of, cf_list, dl_settings, eui_of, net, number_or, small};
-use crate::{DeskRow, EuiList};
+use crate::flaw::{Flaw, Why, once};
+use crate::form::{Form, array_of, dl_settings, member, need, number_or, or_else, read_as, small};
+use crate::key::Key;
+use crate::reading::{ReadRow, read_rows};
+use crate::{DeskRow, EuiList, Named, NamedRows, Unread};
 use std::alloc::Global;
 use toml::Value;
-use wire_ids::Eui;
+use wire_ids::{Eui, NetId};
 
-// One more of the desk's names.
-#[tactic(auto, unfolding(crate::specs::Rows::next_eui))]
-fn next_eui(found: &EuiList, value: &Value) -> Result<Eui, Flaw>
-    ensures { Gives result (next_eui found.now (view value.now)) }
-{
-    let place = found.len();
-    let Some(eui) = eui_of(value) else {
-        return Err(Flaw::Element {
-            why: Why::BadValue,
-            key: "join_euis",
-            place,
-        });
-    };
-    if found.contains(eui) {
-        return Err(Flaw::Element {
-            why: Why::Twice,
-            key: "join_euis",
-            place,
-        });
+impl Named for Eui {
+    ghost name = { λ e. e.0 };
+
+    fn name(&self) -> u64 {
+        self.0
     }
-    Ok(eui)
 }
 
-fn join_euis(alloc: Global, values: &[Value]) -> Result<EuiList, Flaw>
-    ensures { Gives result (all_after next_eui [] (map view values.now)) }
-{
-    let mut euis = EuiList::new(alloc);
-    for value in values {
-        match next_eui(&euis, value) {
-            Ok(eui) => euis.push(eui)?,
-            Err(flaw) => return Err(flaw),
-        }
+/// The JoinEUIs of the desk.
+#[derive(Drop)]
+struct JoinEuis;
+
+impl ReadRow for JoinEuis {
+    type Row = Eui;
+
+    ghost row_in = { λ _. next_eui };
+
+    #[tactic(auto, unfolding(crate::specs::Rows::next_eui))]
+    fn read_row(
+        &self,
+        _: Global,
+        before: &NamedRows<Eui>,
+        value: &Value,
+    ) -> Result<Eui, Unread<Flaw>> {
+        let eui = read_as(Key::JoinEuis, Eui::of(value))?;
+        once(Key::JoinEuis, before.contains(eui.0))?;
+        Ok(eui)
     }
-    Ok(euis)
 }
 
 // The values in an array of one to sixteen.
 #[tactic(auto, unfolding(crate::specs::Rows::eui_array))]
 fn eui_array(value: &Value) -> Option<&[Value]>
-    ensures { option_map (λ (values : Bor (List toml_value.Value)). map view values.now) result
+    ensures value { option_map
+        (λ (values : Bor (List toml_value.Value)). map view values.now) result
         ≡ eui_array (view value.now) }
+    ensures few { IfSome result (λ values. length values.now ≤ 16) }
 {
     let values = array_of(value)?;
     if !values.is_empty() && values.len() <= 16 {
@@ -63,38 +61,37 @@ fn eui_array(value: &Value) -> Option<&[Value]>
 }
 
 #[tactic(auto, unfolding(crate::specs::Rows::join_euis_in))]
-fn read_join_euis(alloc: Global, value: Option<&Value>) -> Result<EuiList, Flaw>
-    ensures { Gives result (join_euis_in (data_of value.entry)) }
+fn read_join_euis(alloc: Global, row: &Value) -> Result<EuiList, Unread<Flaw>>
+    ensures { Gives result (join_euis_in (view row.now)) }
 {
-    let Some(value) = value else {
-        return Err(Flaw::Key {
-            why: Why::Missing,
-            key: "join_euis",
-        });
+    let Some(value) = member(row, Key::JoinEuis) else {
+        return Err(Unread::Refused(Flaw::at(Why::Missing, Key::JoinEuis)));
     };
-    match eui_array(value) {
-        Some(values) => join_euis(alloc, values),
-        None => Err(Flaw::Key {
-            why: Why::BadValue,
-            key: "join_euis",
-        }),
+    let Some(values) = eui_array(value) else {
+        return Err(Unread::Refused(Flaw::at(Why::BadValue, Key::JoinEuis)));
+    };
+    match read_rows(alloc, &JoinEuis, values) {
+        Ok(euis) => Ok(EuiList::of(euis)),
+        Err(Unread::Refused((place, Flaw { why, key, .. }))) => Err(Unread::Refused(Flaw {
+            why,
+            key,
+            place: Some(place),
+        })),
+        Err(Unread::Memory) => Err(Unread::Memory),
     }
 }
 
 #[tactic(auto, unfolding(crate::specs::Rows::desk_in))]
-pub(crate) fn read_desk(alloc: Global, value: &Value) -> Result<DeskRow, Flaw>
-    ensures { Gives result (desk_in (view value.now)) }
+pub(crate) fn read_desk(alloc: Global, row: &Value) -> Result<DeskRow, Unread<Flaw>>
+    ensures { Gives result (desk_in (view row.now)) }
 {
-    let net_id = match net("net_id", value.get("net_id")) {
-        Ok(net_id) => net_id,
-        Err(flaw) => return Err(flaw),
-    };
-    let join_euis = read_join_euis(alloc, value.get("join_euis"))?;
-    let dl_settings = dl_settings("dl_settings", value.get("dl_settings"))?;
-    let rx_delay = small("rx_delay", value.get("rx_delay"), 15)?;
-    let cf_list = cf_list("cf_list", value.get("cf_list"))?;
-    let lifetime_s = number_or("lifetime_s", value.get("lifetime_s"), 1, u32::MAX, 31536000)?;
-    let ask_s = number_or("ask_s", value.get("ask_s"), 1, 600, 30)?;
+    let net_id: NetId = need(row, Key::NetId)?;
+    let join_euis = read_join_euis(alloc, row)?;
+    let dl_settings = dl_settings(row, Key::DlSettings)?;
+    let rx_delay = small(row, Key::RxDelay, 15)?;
+    let cf_list = or_else(row, Key::CfList, None)?;
+    let lifetime_s = number_or(row, Key::LifetimeS, 1, u32::MAX, 31536000)?;
+    let ask_s = number_or(row, Key::AskS, 1, 600, 30)?;
     Ok(DeskRow {
         net_id,
         join_euis,

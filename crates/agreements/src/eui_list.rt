@@ -1,11 +1,11 @@
-use std::alloc::{AllocError, Global};
+use crate::NamedRows;
 use std::marker::Model;
 use wire_ids::Eui;
 
-/// EUIs in a row. Contracts see them as a list.
+/// Different EUIs, in order. Contracts see them as a list.
 #[derive(Drop)]
 pub struct EuiList {
-    items: Vec<Eui>,
+    euis: NamedRows<Eui>,
 }
 
 impl Model for EuiList {
@@ -14,48 +14,30 @@ impl Model for EuiList {
 
     ghost Value = { List Eui };
 
-    ghost view = { λ l. l.items.items };
+    ghost view = { λ l. l.euis };
 }
 
-ghost use Rattle.std.specs.Prelude.{◌≡◌, ◌==◌, ◌++◌, ◌∷◌, [], length, IfOk};
-ghost use Rattle.std.specs.List.{list_any};
+ghost use Rattle.std.specs.Prelude.{◌≡◌};
+ghost use Rattle.agreements.specs.Rows.{has_eui};
 
 impl EuiList {
-    /// None. Takes no memory.
-    pub fn new(alloc: Global) -> EuiList
-        ensures { result ≡ [] }
+    pub(crate) fn of(euis: NamedRows<Eui>) -> EuiList
+        ensures { result ≡ euis }
     {
-        EuiList {
-            items: Vec::new(alloc),
-        }
-    }
-
-    /// How many there are.
-    pub fn len(&self) -> usize
-        ensures { result ≡ length self.now }
-    {
-        self.items.len()
-    }
-
-    /// Puts one more behind the others. The one error is want of memory.
-    pub fn push(&mut self, eui: Eui) -> Result<(), AllocError>
-        ensures { IfOk result (λ _. self.new ≡ self.old ++ eui ∷ []) }
-    {
-        self.items.push(eui)?;
-        Ok(())
+        EuiList { euis }
     }
 
     /// Whether it is one of them.
     pub fn contains(&self, eui: Eui) -> bool
-        ensures { result ≡ list_any (λ e. e.0 == eui.0) self.now }
+        ensures { result ≡ has_eui eui self.now }
     {
-        self.items.iter().any(|e| e.0 == eui.0)
+        self.euis.contains(eui.0)
     }
 
     /// They, in order.
     pub fn as_slice(&self) -> &[Eui]
         ensures { result.now ≡ self.now }
     {
-        self.items.as_slice()
+        self.euis.as_slice()
     }
 }

@@ -1,8 +1,11 @@
 ghost use Rattle.std.specs.Prelude.{◌≡◌, IfOk, string_bytes};
-ghost use Rattle.agreements.specs.Steps.{element_path};
-ghost use Rattle.agreements.specs.Walk.{Reports, fault_number, fault_of, fault_path, path_of};
+ghost use Rattle.agreements.specs.Walk.{IsFault, fault_in, fault_number, fault_of, fault_path};
+ghost use Rattle.agreements.specs.Walk.{key_path, path_of};
+ghost use Rattle.agreements.specs.declared.fault.TablesFault.TheVariants as fault;
 
+use crate::Unread;
 use crate::flaw::{Flaw, Why};
+use crate::key::Key;
 use std::alloc::{AllocError, Global};
 use wire_ids::Text;
 
@@ -23,32 +26,29 @@ pub enum TablesFault {
     NoSuch { path: Text },
     /// The section has more rows than the limit, or the text more bytes.
     TooMany { path: Text, limit: u32 },
-    /// Memory is wanting.
-    Memory,
 }
 
 impl TablesFault {
-    /// The fault's number, from 1 to 6 in the order of the variants; None exactly for `Memory`.
-    pub fn number(&self) -> Option<u32>
+    /// The fault's number, from 1 to 6 in the order of the variants.
+    pub fn number(&self) -> u32
         ensures { result ≡ fault_number self.now }
     {
         match self {
-            TablesFault::NotToml => Some(1),
-            TablesFault::Missing { .. } => Some(2),
-            TablesFault::BadValue { .. } => Some(3),
-            TablesFault::Twice { .. } => Some(4),
-            TablesFault::NoSuch { .. } => Some(5),
-            TablesFault::TooMany { .. } => Some(6),
-            TablesFault::Memory => None,
+            TablesFault::NotToml => 1,
+            TablesFault::Missing { .. } => 2,
+            TablesFault::BadValue { .. } => 3,
+            TablesFault::Twice { .. } => 4,
+            TablesFault::NoSuch { .. } => 5,
+            TablesFault::TooMany { .. } => 6,
         }
     }
 
-    /// Where the fault is, as `device[2].nwk_key`; empty exactly for `NotToml` and `Memory`.
+    /// Where the fault is, as `device[2].nwk_key`; empty exactly for `NotToml`.
     pub fn path(&self) -> &[u8]
         ensures { result.now ≡ fault_path self.now }
     {
         match self {
-            TablesFault::NotToml | TablesFault::Memory => &[],
+            TablesFault::NotToml => &[],
             TablesFault::Missing { path } => path.as_slice(),
             TablesFault::BadValue { path } => path.as_slice(),
             TablesFault::Twice { path } => path.as_slice(),
@@ -69,7 +69,17 @@ fn fault_of(why: Why, path: Text) -> TablesFault
     }
 }
 
-fn path(alloc: Global, section: &str, row: Option<usize>, key: &str) -> Result<Text, AllocError>
+fn key_path(alloc: Global, key: Key, place: Option<usize>) -> Result<String, AllocError>
+    ensures { IfOk result (λ t. string_bytes t ≡ key_path key place) }
+{
+    let key = key.name();
+    match place {
+        None => String::from_str(alloc, key),
+        Some(place) => format!(in alloc; "{key}[{place}]"),
+    }
+}
+
+fn path_of(alloc: Global, section: &str, row: Option<usize>, key: &str) -> Result<Text, AllocError>
     ensures { IfOk result (λ t. t ≡ path_of section.now row key.now) }
 {
     match row {
@@ -78,35 +88,39 @@ fn path(alloc: Global, section: &str, row: Option<usize>, key: &str) -> Result<T
     }
 }
 
-fn element(alloc: Global, key: &str, place: usize) -> Result<String, AllocError>
-    ensures { IfOk result (λ t. string_bytes t ≡ element_path key.now place) }
-{
-    format!(in alloc; "{key}[{place}]")
-}
-
 /// The fault of a row, `section` alone where it has no number.
-pub(crate) fn report(
+pub(crate) fn fault_in(
     alloc: Global,
     section: &'static str,
     row: Option<usize>,
     flaw: Flaw,
-) -> TablesFault
-    ensures { Reports section.now row flaw result }
+) -> Unread<TablesFault>
+    ensures { IsFault (fault_in section.now row flaw) result }
 {
-    match flaw {
-        Flaw::Memory => TablesFault::Memory,
-        Flaw::Key { why, key } => match path(alloc, section, row, key) {
-            Ok(path) => fault_of(why, path),
-            Err(_) => TablesFault::Memory,
-        },
-        Flaw::Element { why, key, place } => {
-            let Ok(key) = element(alloc, key, place) else {
-                return TablesFault::Memory;
-            };
-            match path(alloc, section, row, key.as_str()) {
-                Ok(path) => fault_of(why, path),
-                Err(_) => TablesFault::Memory,
-            }
-        }
+    let Ok(key) = key_path(alloc, flaw.key, flaw.place) else {
+        return Unread::Memory;
+    };
+    match path_of(alloc, section, row, key.as_str()) {
+        Ok(path) => Unread::Refused(fault_of(flaw.why, path)),
+        Err(_) => Unread::Memory,
+    }
+}
+
+/// The fault of a whole section.
+pub(crate) fn fault_at(alloc: Global, why: Why, section: &'static str) -> Unread<TablesFault>
+    ensures { IsFault (fault_of why section.now) result }
+{
+    match Text::of_slice(alloc, section.as_bytes()) {
+        Ok(path) => Unread::Refused(fault_of(why, path)),
+        Err(_) => Unread::Memory,
+    }
+}
+
+pub(crate) fn too_many(alloc: Global, section: &'static str, limit: u32) -> Unread<TablesFault>
+    ensures { IsFault (fault.TooMany section.now limit) result }
+{
+    match Text::of_slice(alloc, section.as_bytes()) {
+        Ok(path) => Unread::Refused(TablesFault::TooMany { path, limit }),
+        Err(_) => Unread::Memory,
     }
 }

@@ -1,11 +1,11 @@
 ghost use Rattle.std.specs.Prelude.{◌≡◌};
-ghost use Rattle.agreements.specs.Steps.{Gives, known, once};
-ghost use Rattle.agreements.specs.declared.flaw.Flaw.TheVariants.{Memory};
+ghost use Rattle.agreements.specs.Steps.{Gives, flaw_at, known, once};
 
-use std::alloc::AllocError;
+use crate::Unread;
+use crate::key::Key;
 
 /// Why a key is refused.
-#[derive(Clone, Copy, Debug, PartialEq, Eq)]
+#[derive(Clone, Copy)]
 pub(crate) enum Why {
     Missing,
     BadValue,
@@ -13,61 +13,44 @@ pub(crate) enum Why {
     NoSuch,
 }
 
-/// What stops the reading of a row.
-#[derive(Clone, Copy, Debug)]
-pub(crate) enum Flaw {
-    Key {
-        why: Why,
-        key: &'static str,
-    },
-    Element {
-        why: Why,
-        key: &'static str,
-        place: usize,
-    },
-    Memory,
+/// What is wrong in a row: why, at which key, and at which element of its array where it has one.
+#[derive(Clone, Copy)]
+pub(crate) struct Flaw {
+    pub(crate) why: Why,
+    pub(crate) key: Key,
+    pub(crate) place: Option<usize>,
 }
 
-impl From<AllocError> for Flaw {
-    ghost from_gives = { λ _ e. e ≡ Memory };
-
-    fn from(_: AllocError) -> Self {
-        Flaw::Memory
-    }
-}
-
-impl From<wire_ids::Memory> for Flaw {
-    ghost from_gives = { λ _ e. e ≡ Memory };
-
-    fn from(_: wire_ids::Memory) -> Self {
-        Flaw::Memory
+impl Flaw {
+    pub(crate) fn at(why: Why, key: Key) -> Flaw
+        ensures { result ≡ flaw_at why key }
+    {
+        Flaw {
+            why,
+            key,
+            place: None,
+        }
     }
 }
 
 /// Refuses a value that stood at an earlier place.
-pub(crate) fn once(key: &'static str, seen: bool) -> Result<(), Flaw>
-    ensures { Gives result (once key.now seen) }
+pub(crate) fn once(key: Key, seen: bool) -> Result<(), Unread<Flaw>>
+    ensures { Gives result (once key seen) }
 {
     if seen {
-        Err(Flaw::Key {
-            why: Why::Twice,
-            key,
-        })
+        Err(Unread::Refused(Flaw::at(Why::Twice, key)))
     } else {
         Ok(())
     }
 }
 
 /// Refuses a value that names no row.
-pub(crate) fn known(key: &'static str, found: bool) -> Result<(), Flaw>
-    ensures { Gives result (known key.now found) }
+pub(crate) fn known(key: Key, found: bool) -> Result<(), Unread<Flaw>>
+    ensures { Gives result (known key found) }
 {
     if found {
         Ok(())
     } else {
-        Err(Flaw::Key {
-            why: Why::NoSuch,
-            key,
-        })
+        Err(Unread::Refused(Flaw::at(Why::NoSuch, key)))
     }
 }

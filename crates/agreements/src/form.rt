@@ -1,102 +1,137 @@
-ghost use Rattle.std.specs.Prelude.{◌≡◌, ◌≤◌, ℕ, List, [], IfSome, None, option_map, map};
+ghost use Rattle.std.specs.Prelude.{◌≡◌, ◌≤◌, ℕ, List, [], IfSome, Option, option_map, map};
 ghost use Rattle.std.specs.Borrow.{Bor};
 ghost use Rattle.toml.specs.View.{view};
-ghost use Rattle.toml.specs.Data.{as_bool};
+ghost use Rattle.toml.specs.Data.{Data, as_bool};
 ghost use Rattle.toml.specs.declared.value.Value as toml_value;
 ghost use Rattle.agreements.specs.Forms.{array_of, bytes_of, cf_list_of, dl_settings_of, eui_of};
 ghost use Rattle.agreements.specs.Forms.{is_printable, net_of, number_of, passive_of, printable_of};
-ghost use Rattle.wire_ids.specs.Digits.{without_prefix};
-ghost use Rattle.agreements.specs.Steps.{Gives, absent, data_of, need, or_else, read_as};
+ghost use Rattle.agreements.specs.Steps.{Gives, at_key, need, or_else, read_as};
 
-use crate::Passive;
 use crate::flaw::{Flaw, Why};
+use crate::key::Key;
+use crate::{Passive, Unread};
 use hex::FromHex;
 use std::alloc::Global;
 use toml::Value;
-use wire_ids::{Eui, NetId, Text};
+use wire_ids::{Eui, NetId, Text, without_prefix};
 
-fn without_prefix(text: &str) -> &[u8]
-    ensures { result.now ≡ without_prefix text.now }
-{
-    let bytes = text.as_bytes();
-    if bytes.len() >= 2 && bytes[0] == b'0' && (bytes[1] == b'x' || bytes[1] == b'X') {
-        &bytes[2..]
-    } else {
-        bytes
+/// What a value of the file can be read as.
+pub(crate) trait Form: Sized {
+    ghost form: { Data → Option Self };
+
+    fn of(value: &Value) -> Option<Self>
+        ensures { result ≡ form (view value.now) };
+}
+
+impl Form for Eui {
+    ghost form = { eui_of };
+
+    #[tactic(auto, unfolding(crate::specs::Forms::eui_of))]
+    fn of(value: &Value) -> Option<Eui> {
+        let text = value.as_str()?;
+        Eui::from_hex(text.as_bytes()).ok()
     }
 }
 
-#[tactic(auto, unfolding(crate::specs::Forms::bytes_of))]
-fn bytes<const N: usize>(value: &Value) -> Option<[u8; N]>
-    ensures { result ≡ bytes_of N (view value.now) }
+impl Form for NetId {
+    ghost form = { net_of };
+
+    #[tactic(auto, unfolding(crate::specs::Forms::net_of))]
+    fn of(value: &Value) -> Option<NetId> {
+        let text = value.as_str()?;
+        NetId::from_hex(text.as_bytes()).ok()
+    }
+}
+
+impl Form for bool {
+    ghost form = { as_bool };
+
+    fn of(value: &Value) -> Option<bool> {
+        value.as_bool()
+    }
+}
+
+impl<const N: usize> Form for [u8; N] {
+    ghost form = { bytes_of N };
+
+    #[tactic(auto, unfolding(crate::specs::Forms::bytes_of))]
+    fn of(value: &Value) -> Option<[u8; N]> {
+        let text = value.as_str()?;
+        <[u8; N]>::from_hex(without_prefix(text.as_bytes())).ok()
+    }
+}
+
+impl Form for Passive {
+    ghost form = { passive_of };
+
+    #[tactic(auto, unfolding(crate::specs::Forms::passive_of))]
+    fn of(value: &Value) -> Option<Passive> {
+        let text = value.as_str()?.as_bytes();
+        if text == b"none".as_slice() {
+            Some(Passive::Nothing)
+        } else if text == b"stateless".as_slice() {
+            Some(Passive::Stateless)
+        } else if text == b"stateful".as_slice() {
+            Some(Passive::Stateful)
+        } else {
+            None
+        }
+    }
+}
+
+/// A channel list, or none for an empty text.
+impl Form for Option<[u8; 16]> {
+    ghost form = { cf_list_of };
+
+    #[tactic(auto, unfolding(crate::specs::Forms::cf_list_of))]
+    fn of(value: &Value) -> Option<Option<[u8; 16]>> {
+        let text = value.as_str()?;
+        if without_prefix(text.as_bytes()).is_empty() {
+            return Some(None);
+        }
+        let bytes = <[u8; 16]>::of(value)?;
+        if bytes[15] == 0 {
+            Some(Some(bytes))
+        } else {
+            None
+        }
+    }
+}
+
+pub(crate) fn member(row: &Value, key: Key) -> Option<&Value>
+    ensures { option_map (λ (v : Bor toml_value.Value). view v.now) result
+        ≡ at_key key (view row.now) }
 {
-    let text = value.as_str()?;
-    <[u8; N]>::from_hex(without_prefix(text)).ok()
+    row.get(key.name())
 }
 
 // A value's form, or the refusal of its key.
-fn read_as<T>(key: &'static str, found: Option<T>) -> Result<T, Flaw>
-    ensures { Gives result (read_as key.now found) }
+pub(crate) fn read_as<T>(key: Key, found: Option<T>) -> Result<T, Unread<Flaw>>
+    ensures { Gives result (read_as key found) }
 {
     match found {
         Some(found) => Ok(found),
-        None => Err(Flaw::Key {
-            why: Why::BadValue,
-            key,
-        }),
+        None => Err(Unread::Refused(Flaw::at(Why::BadValue, key))),
     }
 }
 
-fn missing<T>(key: &'static str) -> Result<T, Flaw>
-    ensures { Gives result (absent key.now) }
+/// A key that must stand in the row.
+pub(crate) fn need<T: Form>(row: &Value, key: Key) -> Result<T, Unread<Flaw>>
+    ensures { Gives result (need key T.form (view row.now)) }
 {
-    Err(Flaw::Key {
-        why: Why::Missing,
-        key,
-    })
-}
-
-#[tactic(auto, unfolding(crate::specs::Forms::eui_of))]
-pub(crate) fn eui_of(value: &Value) -> Option<Eui>
-    ensures { result ≡ eui_of (view value.now) }
-{
-    let text = value.as_str()?;
-    Eui::from_hex(text.as_bytes()).ok()
-}
-
-pub(crate) fn eui(key: &'static str, value: Option<&Value>) -> Result<Eui, Flaw>
-    ensures { Gives result (need key.now eui_of (data_of value.entry)) }
-{
-    match value {
-        None => missing(key),
-        Some(value) => read_as(key, eui_of(value)),
+    match member(row, key) {
+        Some(value) => read_as(key, T::of(value)),
+        None => Err(Unread::Refused(Flaw::at(Why::Missing, key))),
     }
 }
 
-#[tactic(auto, unfolding(crate::specs::Forms::net_of))]
-fn net_of(value: &Value) -> Option<NetId>
-    ensures { result ≡ net_of (view value.now) }
+/// A key that has this value where it doesn't stand in the row.
+pub(crate) fn or_else<T: Form + Drop>(row: &Value, key: Key, default: T) -> Result<T, Unread<Flaw>>
+    ensures { Gives result (or_else default key T.form (view row.now)) }
 {
-    let text = value.as_str()?;
-    NetId::from_hex(text.as_bytes()).ok()
-}
-
-pub(crate) fn net(key: &'static str, value: Option<&Value>) -> Result<NetId, Flaw>
-    ensures { Gives result (need key.now net_of (data_of value.entry)) }
-{
-    match value {
-        None => missing(key),
-        Some(value) => read_as(key, net_of(value)),
-    }
-}
-
-/// A key of 16 bytes.
-pub(crate) fn secret(key: &'static str, value: Option<&Value>) -> Result<[u8; 16], Flaw>
-    ensures { Gives result (need key.now (bytes_of 16) (data_of value.entry)) }
-{
-    match value {
-        None => missing(key),
-        Some(value) => read_as(key, bytes::<16>(value)),
+    match member(row, key) {
+        Some(value) => read_as(key, T::of(value)),
+        None => Ok(default),
     }
 }
 
@@ -104,7 +139,7 @@ pub(crate) fn secret(key: &'static str, value: Option<&Value>) -> Result<[u8; 16
 fn dl_settings_of(value: &Value) -> Option<u8>
     ensures { result ≡ dl_settings_of (view value.now) }
 {
-    let bytes = bytes::<1>(value)?;
+    let bytes = <[u8; 1]>::of(value)?;
     let settings = bytes[0];
     if settings >= 128 && settings / 16 % 8 <= 5 {
         Some(settings)
@@ -113,38 +148,12 @@ fn dl_settings_of(value: &Value) -> Option<u8>
     }
 }
 
-pub(crate) fn dl_settings(key: &'static str, value: Option<&Value>) -> Result<u8, Flaw>
-    ensures { Gives result (need key.now dl_settings_of (data_of value.entry)) }
+pub(crate) fn dl_settings(row: &Value, key: Key) -> Result<u8, Unread<Flaw>>
+    ensures { Gives result (need key dl_settings_of (view row.now)) }
 {
-    match value {
-        None => missing(key),
+    match member(row, key) {
         Some(value) => read_as(key, dl_settings_of(value)),
-    }
-}
-
-#[tactic(auto, unfolding(crate::specs::Forms::cf_list_of))]
-fn cf_list_of(value: &Value) -> Option<Option<[u8; 16]>>
-    ensures { result ≡ cf_list_of (view value.now) }
-{
-    let text = value.as_str()?;
-    if without_prefix(text).is_empty() {
-        return Some(None);
-    }
-    let bytes = bytes::<16>(value)?;
-    if bytes[15] == 0 {
-        Some(Some(bytes))
-    } else {
-        None
-    }
-}
-
-/// A channel list, none where it isn't there.
-pub(crate) fn cf_list(key: &'static str, value: Option<&Value>) -> Result<Option<[u8; 16]>, Flaw>
-    ensures { Gives result (or_else None key.now cf_list_of (data_of value.entry)) }
-{
-    match value {
-        None => Ok(None),
-        Some(value) => read_as(key, cf_list_of(value)),
+        None => Err(Unread::Refused(Flaw::at(Why::Missing, key))),
     }
 }
 
@@ -162,57 +171,31 @@ fn number_of(value: &Value, low: u32, high: u32) -> Option<u32>
 }
 
 /// A whole number of at most `high`.
-pub(crate) fn small(key: &'static str, value: Option<&Value>, high: u8) -> Result<u8, Flaw>
-    ensures { Gives result (need key.now (number_of 0 high) (data_of value.entry)) }
+pub(crate) fn small(row: &Value, key: Key, high: u8) -> Result<u8, Unread<Flaw>>
+    ensures { Gives result (need key (number_of 0 high) (view row.now)) }
 {
-    let Some(value) = value else {
-        return missing(key);
+    let Some(value) = member(row, key) else {
+        return Err(Unread::Refused(Flaw::at(Why::Missing, key)));
     };
     match number_of(value, 0, u32::from(high)) {
         Some(number) => Ok(number as u8),
-        None => Err(Flaw::Key {
-            why: Why::BadValue,
-            key,
-        }),
+        None => Err(Unread::Refused(Flaw::at(Why::BadValue, key))),
     }
 }
 
 /// A whole number from `low` to `high`, or `default` where it isn't there.
 pub(crate) fn number_or(
-    key: &'static str,
-    value: Option<&Value>,
+    row: &Value,
+    key: Key,
     low: u32,
     high: u32,
     default: u32,
-) -> Result<u32, Flaw>
-    ensures { Gives result (or_else default key.now (number_of low high) (data_of value.entry)) }
+) -> Result<u32, Unread<Flaw>>
+    ensures { Gives result (or_else default key (number_of low high) (view row.now)) }
 {
-    match value {
-        None => Ok(default),
+    match member(row, key) {
         Some(value) => read_as(key, number_of(value, low, high)),
-    }
-}
-
-pub(crate) fn boolean(key: &'static str, value: Option<&Value>) -> Result<bool, Flaw>
-    ensures { Gives result (need key.now as_bool (data_of value.entry)) }
-{
-    match value {
-        None => missing(key),
-        Some(value) => read_as(key, value.as_bool()),
-    }
-}
-
-/// A truth value, or `default` where it isn't there.
-pub(crate) fn boolean_or(
-    key: &'static str,
-    value: Option<&Value>,
-    default: bool,
-) -> Result<bool, Flaw>
-    ensures { Gives result (or_else default key.now as_bool (data_of value.entry)) }
-{
-    match value {
         None => Ok(default),
-        Some(value) => read_as(key, value.as_bool()),
     }
 }
 
@@ -236,63 +219,37 @@ fn printable_of(value: &Value, low: usize, high: usize) -> Option<&str>
     }
 }
 
-#[tactic(auto, unfolding(crate::specs::Forms::passive_of))]
-fn passive_of(value: &Value) -> Option<Passive>
-    ensures { result ≡ passive_of (view value.now) }
-{
-    let text = value.as_str()?;
-    let bytes = text.as_bytes();
-    if bytes == b"none".as_slice() {
-        Some(Passive::Nothing)
-    } else if bytes == b"stateless".as_slice() {
-        Some(Passive::Stateless)
-    } else if bytes == b"stateful".as_slice() {
-        Some(Passive::Stateful)
-    } else {
-        None
-    }
-}
-
-pub(crate) fn passive(key: &'static str, value: Option<&Value>) -> Result<Passive, Flaw>
-    ensures { Gives result (need key.now passive_of (data_of value.entry)) }
-{
-    match value {
-        None => missing(key),
-        Some(value) => read_as(key, passive_of(value)),
-    }
-}
-
 /// A text of `low` to `high` printable bytes.
 pub(crate) fn text(
     alloc: Global,
-    key: &'static str,
-    value: Option<&Value>,
+    row: &Value,
+    key: Key,
     low: usize,
     high: usize,
-) -> Result<Text, Flaw>
-    ensures { Gives result (need key.now (printable_of low high) (data_of value.entry)) }
+) -> Result<Text, Unread<Flaw>>
+    ensures { Gives result (need key (printable_of low high) (view row.now)) }
 {
-    match value {
-        None => missing(key),
+    match member(row, key) {
         Some(value) => {
             let text = read_as(key, printable_of(value, low, high))?;
             Ok(Text::of_slice(alloc, text.as_bytes())?)
         }
+        None => Err(Unread::Refused(Flaw::at(Why::Missing, key))),
     }
 }
 
 /// A text of at most `high` printable bytes, empty where it isn't there.
 pub(crate) fn text_or_empty(
     alloc: Global,
-    key: &'static str,
-    value: Option<&Value>,
+    row: &Value,
+    key: Key,
     high: usize,
-) -> Result<Text, Flaw>
-    ensures { Gives result (or_else [] key.now (printable_of 0 high) (data_of value.entry)) }
+) -> Result<Text, Unread<Flaw>>
+    ensures { Gives result (or_else [] key (printable_of 0 high) (view row.now)) }
 {
-    match value {
+    match member(row, key) {
+        Some(_) => text(alloc, row, key, 0, high),
         None => Ok(Text::new(Vec::new(alloc))),
-        Some(_) => text(alloc, key, value, 0, high),
     }
 }
 

@@ -6,25 +6,29 @@ mod agreement;
 mod application;
 mod desk;
 mod device;
-mod devices;
 mod eui_list;
 mod fault;
 mod flaw;
 mod form;
 mod gateway;
 mod join_server;
+mod key;
+pub mod laws;
+mod named_rows;
 mod network;
+mod reading;
 mod rows;
 mod section;
+mod sections;
 mod tables;
-#[cfg(test)]
-mod tests;
+mod unread;
 
-pub(crate) use devices::Devices;
 pub use eui_list::EuiList;
 pub use fault::TablesFault;
+pub(crate) use named_rows::{Named, NamedRows};
 pub use rows::{
     AgreementRow, ApplicationRow, DeskRow, DeviceRow, GatewayRow, JoinServerRow, NetworkRow,
     Passive,
 };
 pub use tables::{Tables, read_tables};
+pub use unread::Unread;

@@ -20,7 +20,8 @@ pub struct DeskRow {
     pub ask_s: u32,
 }
 
-/// A row `[[network]]`: a network that asks the desk or is asked by it.
+/// A row `[[network]]`: a network that asks the desk or is asked by it. It has no `Debug`, since it
+/// holds a key.
 #[derive(Drop)]
 pub struct NetworkRow {
     /// Its NetID, which isn't the desk's own.
@@ -70,7 +71,8 @@ pub struct JoinServerRow {
     pub address: Text,
 }
 
-/// A row `[[application]]`: an application, which devices belong to.
+/// A row `[[application]]`: an application, which devices belong to. It has no `Debug`, since it
+/// holds a key.
 #[derive(Drop)]
 pub struct ApplicationRow {
     /// Its name, which is no JoinEUI.
@@ -82,13 +84,14 @@ pub struct ApplicationRow {
 }
 
 /// A row `[[gateway]]`.
-#[derive(Clone, Copy, Debug, PartialEq, Eq)]
+#[derive(Drop)]
 pub struct GatewayRow {
     /// Its name, which is no JoinEUI and no application's.
     pub gateway_id: Eui,
 }
 
-/// A row `[[device]]`: a device and its root keys (LoRaWAN 1.1, 6.1.1).
+/// A row `[[device]]`: a device and its root keys (LoRaWAN 1.1, 6.1.1). It has no `Debug`, since it
+/// holds keys.
 #[derive(Drop)]
 pub struct DeviceRow {
     /// Its DevEUI, which no other device has.

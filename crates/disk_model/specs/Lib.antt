@@ -1,10 +1,15 @@
 pub mod Asking
+pub mod CallLaws
+pub mod Calls
 pub mod CallsInMemory
 pub mod Closed
 pub mod Connections
 pub mod Disk
 pub mod Fixed
+pub mod Fuse
 pub mod Memory
+pub mod MemoryDisks
 pub mod Moments
+pub mod Plan
 pub mod Script
 pub mod Written

@@ -1,10 +1,11 @@
 ghost use Rattle.std.specs.Prelude.{◌≡◌, ◌+◌, ◌≤◌, ◌<◌, List, ℕ, [], ◌∷◌, ◌++◌, Option, Some};
 ghost use Rattle.std.specs.Prelude.{◌↔◌, length, option_map, vec_len, vec_capacity, IfOk, IsErr};
+ghost use Rattle.std.specs.Prelude.{OnOk};
 ghost use Rattle.std.specs.VecDeque.{deque_len};
 ghost use Rattle.wire_ids.specs.Causes.{HasCause};
 ghost use Rattle.disk_model.specs.Connections.{Gives, IsOut, TakesBack, out_after};
 
-use crate::faults::one_more;
+use crate::plan::Plan;
 use crate::{Failed, Sink, Source};
 use std::alloc::Global;
 use std::collections::VecDeque;
@@ -54,16 +55,15 @@ pub struct MemoryCalls<I, O> {
     left: VecDeque<(I, O)>,
     back: Vec<(I, O)>,
     made: usize,
-    passes: u64,
-    fails: u64,
-    faults: u64,
+    plan: Plan,
     ghost within: { deque_len left + vec_len back ≤ made },
     ghost room: { made ≤ vec_capacity back },
 }
 
 impl<I: Source + Drop, O: Sink + Drop> MemoryCalls<I, O> {
     ghost use Rattle.disk_model.specs.CallsInMemory.{calls_left, calls_back, calls_out};
-    ghost use Rattle.disk_model.specs.CallsInMemory.{calls_faults, HasPlan};
+    ghost use Rattle.disk_model.specs.CallsInMemory.{calls_faults};
+    ghost use Rattle.disk_model.specs.Plan.{HasPlan};
 
     /// Gives these connections in order, and no call fails.
     pub fn new(alloc: Global, connections: Vec<(I, O)>) -> Result<MemoryCalls<I, O>, Memory>
@@ -71,7 +71,7 @@ impl<I: Source + Drop, O: Sink + Drop> MemoryCalls<I, O> {
         ensures back { IfOk result (λ c. calls_back c ≡ []) }
         ensures out { IfOk result (λ c. calls_out c ≡ 0) }
         ensures faults { IfOk result (λ c. calls_faults c ≡ 0) }
-        ensures plan { IfOk result (λ c. HasPlan c 0 0) }
+        ensures plan { IfOk result (λ c. HasPlan c.plan 0 0) }
     {
         MemoryCalls::with(alloc, connections, 0, 0)
     }
@@ -88,16 +88,14 @@ impl<I: Source + Drop, O: Sink + Drop> MemoryCalls<I, O> {
         ensures back { IfOk result (λ c. calls_back c ≡ []) }
         ensures out { IfOk result (λ c. calls_out c ≡ 0) }
         ensures faults { IfOk result (λ c. calls_faults c ≡ 0) }
-        ensures plan { IfOk result (λ c. HasPlan c passes fails) }
+        ensures plan { IfOk result (λ c. HasPlan c.plan passes fails) }
     {
         let made = connections.len();
         Ok(MemoryCalls {
             left: VecDeque::from_vec(connections),
             back: Vec::with_capacity(alloc, made)?,
             made,
-            passes,
-            fails,
-            faults: 0,
+            plan: Plan::new(passes, fails),
         })
     }
 
@@ -112,13 +110,14 @@ impl<I: Source + Drop, O: Sink + Drop> MemoryCalls<I, O> {
     pub fn faults(&self) -> u64
         ensures { result ≡ calls_faults self.now }
     {
-        self.faults
+        self.plan.faults
     }
 }
 
 impl<I: Source + Drop, O: Sink + Drop> Calls for MemoryCalls<I, O> {
     ghost use Rattle.disk_model.specs.CallsInMemory.{calls_left, calls_back, calls_out};
-    ghost use Rattle.disk_model.specs.CallsInMemory.{calls_faults, HasPlan, IsFailing, FollowsPlan};
+    ghost use Rattle.disk_model.specs.CallsInMemory.{calls_faults};
+    ghost use Rattle.disk_model.specs.Plan.{FollowsPlan, IsFailing};
 
     type Incoming = I;
 
@@ -137,16 +136,11 @@ impl<I: Source + Drop, O: Sink + Drop> Calls for MemoryCalls<I, O> {
         ensures back { calls_back self.new ≡ calls_back self.old }
         ensures out { calls_out self.new ≡ out_after result (calls_out self.old) }
         ensures cause { HasCause (calls_faults self.old) (calls_faults self.new) result }
-        ensures fails { IsErr result ↔ IsFailing self.old }
-        ensures plan { FollowsPlan self.old self.new }
+        ensures stays { OnOk result (calls_faults self.new ≡ calls_faults self.old) }
+        ensures fails { IsErr result ↔ IsFailing self.old.plan }
+        ensures plan { FollowsPlan self.old.plan self.new.plan }
     {
-        if self.passes > 0 {
-            self.passes -= 1;
-        } else if self.fails > 0 {
-            self.fails -= 1;
-            self.faults = one_more(self.faults);
-            return Err(Failed);
-        }
+        self.plan.call()?;
         Ok(self.left.pop_front())
     }
 
@@ -155,8 +149,7 @@ impl<I: Source + Drop, O: Sink + Drop> Calls for MemoryCalls<I, O> {
         ensures left { calls_left self.new ≡ calls_left self.old }
         ensures back { calls_back self.new ≡ calls_back self.old ++ (incoming, outgoing) ∷ [] }
         ensures out { calls_out self.new + 1 ≡ calls_out self.old }
-        ensures faults { calls_faults self.new ≡ calls_faults self.old }
-        ensures plan { HasPlan self.new self.old.passes self.old.fails }
+        ensures plan { self.new.plan ≡ self.old.plan }
     {
         keep(&mut self.back, (incoming, outgoing));
     }

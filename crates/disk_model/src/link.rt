@@ -101,6 +101,13 @@ impl ScriptLink {
     {
         self.asked.as_slice()
     }
+
+    /// How often it has failed.
+    pub fn faults(&self) -> u64
+        ensures { result ≡ link_faults self.now }
+    {
+        self.faults
+    }
 }
 
 impl Link for ScriptLink {
@@ -118,7 +125,19 @@ impl Link for ScriptLink {
         peer: PeerId,
         body: &[u8],
         answer: &mut Vec<u8>,
-    ) -> Result<(), LinkFault> {
+    ) -> Result<(), LinkFault>
+        ensures asked { Asks (Some (link_asked self.old)) (Some (link_asked self.new))
+            (record { peer = peer; body = body.now }) result }
+        ensures answers { Answers (Some (link_script self.old)) (Some (link_script self.new))
+            answer.new.items result }
+        ensures short { IfOk result (λ _. length answer.new.items ≤ 8193) }
+        ensures failed { IsErrOf result LinkFault.Failed
+            → Rose (link_faults self.old) (link_faults self.new) }
+        ensures later { link_faults self.old ≤ link_faults self.new }
+        ensures stays { OnOk result (link_faults self.new ≡ link_faults self.old) }
+        ensures memory { IsErrOf result LinkFault.Memory
+            → link_faults self.new ≡ link_faults self.old }
+    {
         note(&mut self.asked, alloc, peer, body)?;
         let Some(next) = self.script.get(self.at) else {
             self.faults = one_more(self.faults);
@@ -178,6 +197,13 @@ impl ClosedLink {
     {
         ClosedLink { faults: 0 }
     }
+
+    /// How often it has failed.
+    pub fn faults(&self) -> u64
+        ensures { result ≡ link_faults self.now }
+    {
+        self.faults
+    }
 }
 
 impl Link for ClosedLink {
@@ -195,7 +221,11 @@ impl Link for ClosedLink {
         peer: PeerId,
         body: &[u8],
         answer: &mut Vec<u8>,
-    ) -> Result<(), LinkFault> {
+    ) -> Result<(), LinkFault>
+        ensures failed { IsErrOf result LinkFault.Failed }
+        ensures rose { Rose (link_faults self.old) (link_faults self.new) }
+        ensures later { link_faults self.old ≤ link_faults self.new }
+    {
         self.faults = one_more(self.faults);
         Err(LinkFault::Failed)
     }

@@ -1,11 +1,12 @@
 ghost use Rattle.std.specs.Prelude.{◌≡◌, ◌↔◌, ◌+◌, ◌≤◌, ◌<◌, [], ◌++◌, length, take, min, Some};
 ghost use Rattle.std.specs.Prelude.{IfOk};
-ghost use Rattle.std.specs.Prelude.{IsErr, IsTrue};
+ghost use Rattle.std.specs.Prelude.{IsErr, OnOk};
 ghost use Rattle.std.specs.Io.{ReadsAtMost, WritesAtMost};
 ghost use Rattle.std.specs.Io.KnownBytes.{ReadConsumes, WriteAppends};
 ghost use Rattle.wire_ids.specs.Causes.{HasCause};
 
 use crate::faults::one_more;
+use crate::plan::Plan;
 use crate::{Failed, Sink, Source};
 use std::alloc::Global;
 use wire_ids::Memory;
@@ -17,22 +18,20 @@ pub struct MemorySource {
     bytes: Vec<u8>,
     at: usize,
     most: usize,
-    passes: u64,
-    fails: u64,
-    faults: u64,
+    plan: Plan,
     ghost within: { at ≤ length bytes.items },
     ghost some: { 1 ≤ most },
 }
 
 impl MemorySource {
     ghost use Rattle.disk_model.specs.Memory.{source_faults, source_left};
-    ghost use Rattle.disk_model.specs.Memory.{FollowsPlan, HasPlan, IsFailing};
+    ghost use Rattle.disk_model.specs.Plan.{HasPlan};
 
     /// A source of these bytes, none of whose calls fails.
     pub fn new(bytes: Vec<u8>) -> MemorySource
         ensures left { source_left result ≡ bytes.items }
         ensures faults { source_faults result ≡ 0 }
-        ensures plan { HasPlan result 0 0 }
+        ensures plan { HasPlan result.plan 0 0 }
     {
         MemorySource::with(bytes, usize::MAX, 0, 0)
     }
@@ -43,16 +42,14 @@ impl MemorySource {
         requires { 1 ≤ most }
         ensures left { source_left result ≡ bytes.items }
         ensures faults { source_faults result ≡ 0 }
-        ensures plan { HasPlan result passes fails }
+        ensures plan { HasPlan result.plan passes fails }
         ensures most { result.most ≡ most }
     {
         MemorySource {
             bytes,
             at: 0,
             most,
-            passes,
-            fails,
-            faults: 0,
+            plan: Plan::new(passes, fails),
         }
     }
 
@@ -60,27 +57,7 @@ impl MemorySource {
     pub fn faults(&self) -> u64
         ensures { result ≡ source_faults self.now }
     {
-        self.faults
-    }
-
-    // Whether the call at hand fails.
-    fn is_failing(&mut self) -> bool
-        ensures same { self.new ≡ record self.old {
-          passes = self.new.passes;
-          fails = self.new.fails;
-        } }
-        ensures fails { IsTrue result ↔ IsFailing self.old }
-        ensures plan { FollowsPlan self.old self.new }
-    {
-        if self.passes > 0 {
-            self.passes -= 1;
-            return false;
-        }
-        if self.fails == 0 {
-            return false;
-        }
-        self.fails -= 1;
-        true
+        self.plan.faults
     }
 
     // Gives the next bytes.
@@ -89,9 +66,7 @@ impl MemorySource {
         ensures most { result ≤ self.old.most }
         ensures bytes { source_left self.old ≡ take result room.new ++ source_left self.new }
         ensures end { result ≡ 0 → 0 < length room.new → source_left self.new ≡ [] }
-        ensures faults { source_faults self.new ≡ source_faults self.old }
-        ensures passes { self.new.passes ≡ self.old.passes }
-        ensures fails { self.new.fails ≡ self.old.fails }
+        ensures plan { self.new.plan ≡ self.old.plan }
     {
         let count = fill(room, &self.bytes[self.at..], self.most);
         self.at += count;
@@ -101,7 +76,7 @@ impl MemorySource {
 
 impl Source for MemorySource {
     ghost use Rattle.disk_model.specs.Memory.{source_faults, source_left};
-    ghost use Rattle.disk_model.specs.Memory.{FollowsPlan, IsFailing};
+    ghost use Rattle.disk_model.specs.Plan.{FollowsPlan, IsFailing};
 
     ghost left = { λ s. Some (source_left s) };
 
@@ -112,14 +87,12 @@ impl Source for MemorySource {
         ensures bytes { ReadConsumes (Some (source_left self.old)) (Some (source_left self.new))
             result room.new }
         ensures cause { HasCause (source_faults self.old) (source_faults self.new) result }
-        ensures fails { IsErr result ↔ IsFailing self.old }
-        ensures plan { FollowsPlan self.old self.new }
+        ensures stays { OnOk result (source_faults self.new ≡ source_faults self.old) }
+        ensures fails { IsErr result ↔ IsFailing self.old.plan }
+        ensures plan { FollowsPlan self.old.plan self.new.plan }
         ensures most { IfOk result (λ n. n ≤ self.old.most) }
     {
-        if self.is_failing() {
-            self.faults = one_more(self.faults);
-            return Err(Failed);
-        }
+        self.plan.call()?;
         Ok(self.give(room))
     }
 }
@@ -191,6 +164,7 @@ impl Sink for MemorySink {
         ensures bytes { WriteAppends (Some (sink_written self.old)) (Some (sink_written self.new))
             result piece.now }
         ensures cause { HasCause (sink_faults self.old) (sink_faults self.new) result }
+        ensures stays { OnOk result (sink_faults self.new ≡ sink_faults self.old) }
         ensures full { IsErr result ↔ ((sink_room self.old ≡ 0) × (0 < length piece.now)) }
         ensures count { IfOk result (λ n. n ≡ min (length piece.now) (sink_room self.old)) }
         ensures room { IfOk result (λ n. sink_room self.new + n ≡ sink_room self.old) }

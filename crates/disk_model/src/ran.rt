@@ -1,4 +1,5 @@
 /// An object that a call took and was refused: the object goes back with the fault.
+#[derive(Drop)]
 pub struct Held<T, F> {
     pub object: T,
     pub fault: F,

@@ -1,6 +1,7 @@
 use crate::{
-    Calls, Clock, ClosedClock, ClosedDisk, ClosedLink, Disk, Failed, FixedClock, Link, LinkFault,
-    MemoryCalls, MemorySink, MemorySource, ScriptLink, Sink, Source, write_whole,
+    Calls, Clock, ClosedClock, ClosedDisk, ClosedLink, Disk, Failed, FixedClock, FuseDisk, Link,
+    LinkFault, MemoryCalls, MemoryDisk, MemorySink, MemorySource, ScriptLink, Sink, Source,
+    write_whole,
 };
 use std::test::Fail;
 use wire_ids::{Eui, PeerId, Text};
@@ -58,10 +59,10 @@ fn peers_in_memory(rt: HostRuntime) -> Result<(), Fail> {
         assert_eq!(rt; asked.peer, PEER);
         assert_eq!(rt; asked.body.as_slice(), b"body".as_slice());
     }
-    assert_eq!(rt;
-        ClosedLink::new().ask(alloc, PEER, b"body", &mut answer),
-        failed
-    );
+    assert_eq!(rt; link.faults(), 2);
+    let mut closed = ClosedLink::new();
+    assert_eq!(rt; closed.ask(alloc, PEER, b"body", &mut answer), failed);
+    assert_eq!(rt; closed.faults(), 1);
     Ok(())
 }
 
@@ -105,5 +106,31 @@ fn clocks_and_closed_disks(rt: HostRuntime) -> Result<(), Fail> {
     assert_eq!(rt; disk.read(0, &mut [0]), Err(Failed));
     assert_eq!(rt; disk.write_at(0, b"x"), Err(Failed));
     assert_eq!(rt; disk.sync(), Err(Failed));
+    assert_eq!(rt; disk.faults(), 4);
+    Ok(())
+}
+
+#[test]
+fn disks_in_memory(rt: HostRuntime) -> Result<(), Fail> {
+    let alloc = rt.alloc();
+    is_send::<FuseDisk<MemoryDisk>>();
+    let mut disk = MemoryDisk::new(alloc, b"abcd", 8, 6, vec![in alloc; 3]?)?;
+    for (at, bytes, want, content) in [
+        (2, b"xyz".as_slice(), Ok(()), b"abxyz".as_slice()),
+        (5, b"1234".as_slice(), Err(Failed), b"abxyz1".as_slice()),
+        (6, b"345".as_slice(), Err(Failed), b"abxyz13".as_slice()),
+    ] {
+        assert_eq!(rt; disk.len().is_ok(), true);
+        assert!(rt; at <= disk.content().len() as u64);
+        assert_eq!(rt; disk.write_at(at, bytes), want);
+        assert_eq!(rt; disk.content(), content);
+    }
+    assert_eq!(rt; disk.sync(), Err(Failed));
+    assert_eq!(rt; disk.calls().len(), 6);
+    assert_eq!(rt; disk.faults(), 3);
+    let mut fuse = FuseDisk::new(disk, 1);
+    assert_eq!(rt; fuse.sync(), Err(Failed));
+    assert_eq!(rt; fuse.len(), Err(Failed));
+    assert_eq!(rt; fuse.into_disk().faults(), 4);
     Ok(())
 }

@@ -33,6 +33,9 @@ one_more {x = x} {s = s} h w = record { bytes = cons_bytes x s h w.bytes }
 one_mod : (n : ℕ) {s : List ℕ} → Written s → Written (n % 256 ∷ s)
 one_mod n {s = s} w = record { bytes = cons_bytes (n % 256) s (omega arith) w.bytes }
 
+pub four_bytes : (a b c d : ℕ) → a < 256 → b < 256 → c < 256 → d < 256 → AreBytes (a ∷ b ∷ c ∷ d ∷ [])
+four_bytes a b c d ha hb hc hd = (one_more ha (one_more hb (one_more hc (one_more hd none)))).bytes
+
 pub append_bytes : (s t : List ℕ) → AreBytes s → AreBytes t → AreBytes (s ++ t)
 append_bytes s t h g k = elim (cases_lt k (length s)) [
   | inl l ↦ let e : get_or (s ++ t) k 0 ≡ get_or s k 0 = get_or_append_left s t 0 k l in omega (arith, h k)
@@ -57,6 +60,10 @@ encrypted_block key b h =
     let shifted : AreBytes (shift_rows (sub_bytes s)) =
     bytes16-below (λ k. at (sub_bytes s) k (k / 4 + k % 4)) (λ k. substituted (k % 4 + 4 * ((k / 4 + k % 4) % 4))) in
     IsState-xor16 (shift_rows (sub_bytes s)) (round_key key 10) shifted (round_key-below key h 10)
+
+pub length-encrypted : (key b : List ℕ) → length (encrypted key b) ≡ 16
+unfolding encrypted xor16
+length-encrypted key b = refl
 
 pub length-decrypted : (key b : List ℕ) → length (decrypted key b) ≡ 16
 unfolding decrypted xor16

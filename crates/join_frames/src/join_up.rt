@@ -1,9 +1,9 @@
 ghost use Rattle.std.specs.Prelude.{◌≡◌, ◌≤◌, ◌+◌, length, take, drop, IfOk, IfErr};
 ghost use Rattle.std.specs.Int.{w16, w64, to_le_bytes};
-ghost use Rattle.wire_ids.specs.Numbers.{wire_bytes};
 ghost use Rattle.join_frames.specs.JoinForms.{JoinForm, JoinFault};
 ghost use Rattle.join_frames.specs.declared.join_up.JoinUp.{JoinUp};
 
+use crate::pieces::array_at;
 use wire_ids::{Eui, FrameFault, NetId};
 
 /// A join-request or a rejoin-request of a device (LoRaWAN 1.1, 6.2.2 and 6.2.4).
@@ -35,34 +35,14 @@ fn u16_at(frame: &[u8], at: usize) -> u16
     requires { at + 2 ≤ length frame.now }
     ensures bytes { to_le_bytes w16 result ≡ take 2 (drop at frame.now) }
 {
-    let mut bytes = [0; 2];
-    bytes.copy_from_slice(&frame[at..at + 2]);
-    u16::from_le_bytes(bytes)
+    u16::from_le_bytes(array_at(frame, at))
 }
 
 fn eui_at(frame: &[u8], at: usize) -> Eui
     requires { at + 8 ≤ length frame.now }
     ensures bytes { to_le_bytes w64 result.0 ≡ take 8 (drop at frame.now) }
 {
-    let mut bytes = [0; 8];
-    bytes.copy_from_slice(&frame[at..at + 8]);
-    Eui::from_wire(bytes)
-}
-
-fn mic_at(frame: &[u8], at: usize) -> [u8; 4]
-    requires { at + 4 ≤ length frame.now }
-    ensures { result ≡ take 4 (drop at frame.now) }
-{
-    let mut mic = [0; 4];
-    mic.copy_from_slice(&frame[at..at + 4]);
-    mic
-}
-
-fn net_at(frame: &[u8], at: usize) -> NetId
-    requires { at + 3 ≤ length frame.now }
-    ensures bytes { wire_bytes result ≡ take 3 (drop at frame.now) }
-{
-    NetId::from_wire([frame[at], frame[at + 1], frame[at + 2]])
+    Eui::from_wire(array_at(frame, at))
 }
 
 /// The fields of a join-request of 23 bytes or of a rejoin-request of 19 or 24 bytes. `Size` where
@@ -78,20 +58,20 @@ pub fn read_up(frame: &[u8]) -> Result<JoinUp, FrameFault>
             join_eui: eui_at(frame, 1),
             dev_eui: eui_at(frame, 9),
             nonce: u16_at(frame, 17),
-            mic: mic_at(frame, 19),
+            mic: array_at(frame, 19),
         }),
         19 if frame[0] == 0xc0 && (frame[1] == 0 || frame[1] == 2) => Ok(JoinUp::Rejoin02 {
             kind: frame[1],
-            net: net_at(frame, 2),
+            net: NetId::from_wire(array_at(frame, 2)),
             dev_eui: eui_at(frame, 5),
             count: u16_at(frame, 13),
-            mic: mic_at(frame, 15),
+            mic: array_at(frame, 15),
         }),
         24 if frame[0] == 0xc0 && frame[1] == 1 => Ok(JoinUp::Rejoin1 {
             join_eui: eui_at(frame, 2),
             dev_eui: eui_at(frame, 10),
             count: u16_at(frame, 18),
-            mic: mic_at(frame, 20),
+            mic: array_at(frame, 20),
         }),
         19 | 23 | 24 => Err(FrameFault::Form),
         got => Err(FrameFault::Size { got }),

@@ -5,6 +5,7 @@ mod accept;
 mod join_up;
 mod mic;
 mod open;
+mod pieces;
 mod requests;
 mod sealing;
 #[cfg(test)]

@@ -2,7 +2,7 @@ ghost use Rattle.std.specs.Prelude.{◌≡◌, ◌<◌, ◌≤◌, ◌-◌, ◌�
 ghost use Rattle.key_vault.specs.Table.{nwk_at};
 ghost use Rattle.join_frames.specs.Mics.{mic, HasMic};
 
-use aes_cmac::RoundKeys;
+use aes_cmac::{RoundKeys, same_bytes};
 use key_vault::{BlockFn, Vault};
 
 pub(crate) fn first_four(block: [u8; 16]) -> [u8; 4]
@@ -23,7 +23,7 @@ fn ends_in(frame: &[u8], mic: [u8; 4]) -> bool
     requires { 4 ≤ length frame.now }
     ensures { IsTrue result ↔ (drop (length frame.now - 4) frame.now ≡ mic) }
 {
-    &frame[frame.len() - 4..] == &mic[..]
+    same_bytes(&frame[frame.len() - 4..], &mic)
 }
 
 /// Whether the join-request's MIC is that of its fields under the NwkKey of row `i` (LoRaWAN 1.1,

@@ -1,16 +1,14 @@
 ghost use Rattle.std.specs.Prelude.{◌≡◌, ◌<◌, ◌⊎◌, ◌∷◌, ◌++◌, ◌+◌, length, take, drop};
 ghost use Rattle.std.specs.Prelude.{List, ℕ, None, Some};
-ghost use Rattle.key_vault.specs.Table.{nwk_at, accept_key};
-ghost use Rattle.key_vault.specs.Keys.{js_int_key};
+ghost use Rattle.key_vault.specs.Table.{nwk_at};
 ghost use Rattle.join_frames.specs.Mics.{mic};
-ghost use Rattle.join_frames.specs.Accepts.{mic_text, accept_text, fixed_fields, is_rejoin};
+ghost use Rattle.join_frames.specs.Accepts.{mic_text, accept_text, fixed_fields};
 
-use crate::accept::{Accept, AcceptKind};
+use crate::accept::Accept;
 use crate::mic::first_four;
 use aes_cmac::{Cmac, RoundKeys};
-use key_vault::{BlockFn, Vault, js_enc_of, js_int_of};
+use key_vault::{BlockFn, Vault};
 use std::marker::Model;
-use wire_ids::Eui;
 
 /// The bytes of a join-accept, 17 of them or 33.
 #[derive(Drop)]
@@ -62,7 +60,7 @@ impl AcceptBytes {
 
 // The MIC under JSIntKey.
 #[tactic(auto, unfolding(crate::specs::Mics::mic, crate::specs::Accepts::mic_text))]
-fn accept_mic(js_int: &[u8; 16], accept: &Accept) -> [u8; 4]
+pub(crate) fn accept_mic(js_int: &[u8; 16], accept: &Accept) -> [u8; 4]
     ensures { result ≡ mic js_int.now (mic_text accept.now) }
 {
     let keys = RoundKeys::new(js_int);
@@ -130,33 +128,6 @@ pub fn accept_bytes<E: BlockFn, D: BlockFn>(
             let mut blocks = [first_block(accept, cf), second_block(cf, mic)];
             vault.seal(i, accept.dev, rejoin, &mut blocks);
             AcceptBytes::of_two(blocks[0], blocks[1])
-        }
-    }
-}
-
-// The key that encrypts the accept: NwkKey, or JSEncKey after a rejoin-request.
-#[tactic(auto, unfolding(key_vault::specs::Table::accept_key))]
-pub(crate) fn accept_key(nwk: &[u8; 16], dev: Eui, kind: AcceptKind) -> RoundKeys
-    ensures { result ≡ accept_key nwk.now dev.0 (is_rejoin kind) }
-{
-    if kind.is_rejoin() {
-        RoundKeys::new(&js_enc_of(nwk, dev))
-    } else {
-        RoundKeys::new(nwk)
-    }
-}
-
-// The join-accept under a NwkKey at hand.
-pub(crate) fn accept_under(nwk: &[u8; 16], accept: &Accept) -> AcceptBytes
-    ensures { result ≡ accept_text nwk.now accept.now }
-{
-    let mic = accept_mic(&js_int_of(nwk, accept.dev), accept);
-    let keys = accept_key(nwk, accept.dev, accept.kind);
-    match accept.radio.cf {
-        None => AcceptBytes::of_one(keys.decrypt(only_block(accept, mic))),
-        Some(cf) => {
-            let first = keys.decrypt(first_block(accept, cf));
-            AcceptBytes::of_two(first, keys.decrypt(second_block(cf, mic)))
         }
     }
 }

@@ -10,7 +10,7 @@ use key_vault::{BlockFn, KeyRing, RootKind, Vault, js_int_of};
 use std::alloc::{AllocError, Global};
 use std::process::Abort;
 use std::test::Fail;
-use wire_ids::{DevAddr, Eui, FrameFault, NetId, Nonce24, Radio, RootKeys, Seed};
+use wire_ids::{DevAddr, Eui, NetId, Nonce24, Radio, RootKeys, Seed};
 
 const NWK_KEY: [u8; 16] = [33; 16];
 
@@ -162,18 +162,6 @@ fn accepts_are_sealed_and_opened(rt: HostRuntime) -> Result<(), Fail> {
 }
 
 #[test]
-fn the_accept_of_a_first_join_tells_its_nonce_and_address(rt: HostRuntime) -> Result<(), Fail> {
-    let mut bytes = [0x20; 17];
-    bytes[1..].copy_from_slice(&0x53920cfdf2a9f2b09d93e224878cab9eu128.to_be_bytes());
-    let accept = open_accept(&NWK_KEY, AcceptKind::Join, DEVICE, JOIN_EUI, 0, &bytes).ok_or(
-        "an accept",
-    )?;
-    assert_eq!(rt; accept.seed.nonce.get(), 1);
-    assert_eq!(rt; accept.addr, DevAddr(0x28000001));
-    Ok(())
-}
-
-#[test]
 fn requests_have_their_bytes_and_their_mic(rt: HostRuntime) -> Result<(), Fail> {
     let mut join = [0; 23];
     join[1..17].copy_from_slice(&JOIN.to_be_bytes());
@@ -211,43 +199,5 @@ fn requests_have_their_bytes_and_their_mic(rt: HostRuntime) -> Result<(), Fail> 
     };
     assert_eq!(rt; read_up(&frame), Ok(up));
     assert!(rt; rejoin_mic_ok(&js_int_of(&NWK_KEY, DEVICE), &frame));
-    Ok(())
-}
-
-// Which form bytes with this head have: 0 to 2 for the type of a rejoin-request, 3 for a
-// join-request.
-fn form_of(head: [u8; 2], len: usize) -> Result<u8, FrameFault>
-    requires { (2 ≤ len) × (len ≤ 30) }
-{
-    let mut frame = [0x20; 30];
-    frame[..2].copy_from_slice(&head);
-    Ok(match read_up(&frame[..len])? {
-        JoinUp::Join { .. } => 3,
-        JoinUp::Rejoin02 { kind, .. } => kind,
-        JoinUp::Rejoin1 { .. } => 1,
-    })
-}
-
-#[test]
-fn a_form_is_told_by_first_bytes_and_length(rt: HostRuntime) -> Result<(), Fail> {
-    let form = Err(FrameFault::Form);
-    for (head, at_19, at_23, at_24) in [
-        ([0x00, 0x00], form, Ok(3), form),
-        ([0x00, 0xc0], form, Ok(3), form),
-        ([0xc0, 0x00], Ok(0), form, form),
-        ([0xc0, 0x01], form, form, Ok(1)),
-        ([0xc0, 0x02], Ok(2), form, form),
-        ([0xc0, 0x03], form, form, form),
-        ([0xc1, 0x00], form, form, form),
-        ([0x40, 0x01], form, form, form),
-    ] {
-        for (len, found) in [(19, at_19), (23, at_23), (24, at_24)] {
-            assert_eq!(rt; form_of(head, len), found);
-        }
-        for len in [2, 18, 20, 21, 22, 25, 30] {
-            assert_eq!(rt; form_of(head, len), Err(FrameFault::Size { got: len }));
-        }
-    }
-    assert_eq!(rt; read_up(&[]), Err(FrameFault::Size { got: 0 }));
     Ok(())
 }

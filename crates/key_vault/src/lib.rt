@@ -4,7 +4,7 @@
 mod block_fn;
 mod derive;
 mod key_ring;
-mod mac;
+mod row_cipher;
 #[cfg(test)]
 mod tests;
 mod vault;

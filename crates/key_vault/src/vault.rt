@@ -1,13 +1,15 @@
 ghost use Rattle.std.specs.Prelude.{◌≡◌, ◌<◌, ◌≤◌, List, length, vec_len, map};
 ghost use Rattle.aes_cmac.specs.Aes.{encrypted, decrypted};
+ghost use Rattle.aes_cmac.specs.Mac.{mac};
 ghost use Rattle.key_vault.specs.Keys.{js_int_key, js_enc_key, network_keys, app_session_key};
 ghost use Rattle.key_vault.specs.Table.{Serves, Encrypts, Decrypts, root_key, nwk_at, app_at};
 ghost use Rattle.key_vault.specs.Table.{accept_key};
 
 use crate::block_fn::{BlockFn, RootKind};
-use crate::derive::{device_block, session_block};
+use crate::derive;
 use crate::key_ring::KeyRing;
-use aes_cmac::RoundKeys;
+use crate::row_cipher::RowCipher;
+use aes_cmac::{BlockCipher, RoundKeys, cmac_of};
 use std::marker::Model;
 use std::snapshot::Snapshot;
 use wire_ids::{Eui, RootKeys, Seed, SessionKeys};
@@ -64,62 +66,68 @@ impl<E: BlockFn, D: BlockFn> Vault<E, D> {
         self.encrypt.block(i, kind, block)
     }
 
-    // The decryption of `block` under the NwkKey of row `i`.
-    fn decrypted(&self, i: u32, block: [u8; 16]) -> [u8; 16]
+    // The decryption of `block` under a root key of row `i`.
+    pub(crate) fn decrypted(&self, i: u32, kind: RootKind, block: [u8; 16]) -> [u8; 16]
         requires { i < length self.now }
-        ensures { result ≡ decrypted (nwk_at self.now i) block }
+        ensures { result ≡ decrypted (root_key self.now kind i) block }
     {
-        self.decrypt.block(i, RootKind::Nwk, block)
+        self.decrypt.block(i, kind, block)
+    }
+
+    // The ciphers under the NwkKey and under the AppKey of row `i`.
+    fn nwk(&self, i: u32) -> RowCipher<'_, E, D>
+        requires { i < length self.now }
+        ensures { result ≡ nwk_at self.now i }
+    {
+        RowCipher::new(self, i, RootKind::Nwk)
+    }
+
+    fn app(&self, i: u32) -> RowCipher<'_, E, D>
+        requires { i < length self.now }
+        ensures { result ≡ app_at self.now i }
+    {
+        RowCipher::new(self, i, RootKind::App)
     }
 
     /// JSIntKey of row `i` and the device (LoRaWAN 1.1, 6.1.1.4).
-    #[tactic(auto, unfolding(crate::specs::Keys::js_int_key))]
     pub fn js_int(&self, i: u32, dev: Eui) -> [u8; 16]
         requires { i < length self.now }
         ensures { result ≡ js_int_key (nwk_at self.now i) dev.0 }
     {
-        self.encrypted(i, RootKind::Nwk, device_block(6, dev))
+        derive::js_int(&self.nwk(i), dev)
     }
 
     /// JSEncKey of row `i` and the device (LoRaWAN 1.1, 6.1.1.4).
-    #[tactic(auto, unfolding(crate::specs::Keys::js_enc_key))]
     pub fn js_enc(&self, i: u32, dev: Eui) -> [u8; 16]
         requires { i < length self.now }
         ensures { result ≡ js_enc_key (nwk_at self.now i) dev.0 }
     {
-        self.encrypted(i, RootKind::Nwk, device_block(5, dev))
+        derive::js_enc(&self.nwk(i), dev)
     }
 
     /// The network session keys of row `i` (LoRaWAN 1.1, 6.2.3).
-    #[tactic(auto, unfolding(crate::specs::Keys::network_keys))]
     pub fn session_keys(&self, i: u32, seed: &Seed) -> SessionKeys
         requires { i < length self.now }
         ensures { result ≡ network_keys (nwk_at self.now i) seed.now }
     {
-        SessionKeys {
-            f: self.encrypted(i, RootKind::Nwk, session_block(1, seed)),
-            s: self.encrypted(i, RootKind::Nwk, session_block(3, seed)),
-            e: self.encrypted(i, RootKind::Nwk, session_block(4, seed)),
-        }
+        derive::session_keys(&self.nwk(i), seed)
     }
 
     /// AppSKey of row `i` (LoRaWAN 1.1, 6.2.3).
-    #[tactic(auto, unfolding(crate::specs::Keys::app_session_key))]
     pub fn app_s_key(&self, i: u32, seed: &Seed) -> [u8; 16]
         requires { i < length self.now }
         ensures { result ≡ app_session_key (app_at self.now i) seed.now }
     {
-        self.encrypted(i, RootKind::App, session_block(2, seed))
+        derive::app_s_key(&self.app(i), seed)
     }
 
-    // Decrypts each block under the NwkKey of row `i`.
-    fn seal_join(&self, i: u32, blocks: &mut [[u8; 16]])
+    /// The AES-CMAC of `text`, of any length, under the NwkKey of row `i`: 16 bytes (RFC 4493,
+    /// 2.4).
+    pub fn nwk_cmac(&self, i: u32, text: &[u8]) -> [u8; 16]
         requires { i < length self.now }
-        ensures { blocks.new ≡ map (decrypted (nwk_at self.now i)) blocks.old }
+        ensures { result ≡ mac (nwk_at self.now i) text.now }
     {
-        for block in blocks.iter_mut() {
-            *block = self.decrypted(i, *block);
-        }
+        cmac_of(&self.nwk(i), text)
     }
 
     /// Encrypts a join-accept, which is the AES decrypt operation on each block of 16 bytes: under
@@ -132,19 +140,19 @@ impl<E: BlockFn, D: BlockFn> Vault<E, D> {
             ≡ map (decrypted (accept_key (nwk_at self.now i) dev.0 rejoin)) blocks.old }
     {
         if rejoin {
-            seal_rejoin(&RoundKeys::new(&self.js_enc(i, dev)), blocks);
+            decrypt_each(&RoundKeys::new(&self.js_enc(i, dev)), blocks);
         } else {
-            self.seal_join(i, blocks);
+            decrypt_each(&self.nwk(i), blocks);
         }
     }
 }
 
-// Decrypts each block under a key.
-fn seal_rejoin(keys: &RoundKeys, blocks: &mut [[u8; 16]])
-    ensures { blocks.new ≡ map (decrypted keys.now) blocks.old }
+// Decrypts each block.
+fn decrypt_each<C: BlockCipher>(cipher: &C, blocks: &mut [[u8; 16]])
+    ensures { blocks.new ≡ map (decrypted (C.key cipher.now)) blocks.old }
 {
     for block in blocks.iter_mut() {
-        *block = keys.decrypt(*block);
+        *block = cipher.decrypt_block(*block);
     }
 }
 

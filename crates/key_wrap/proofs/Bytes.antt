@@ -17,9 +17,6 @@ pub record IsHalf (h : List ℕ) : Type 0 where
   pub len : length h ≡ 8
   pub below : (i : ℕ) → get_or h i 0 < 256
 
-pub half_from : (h b : List ℕ) → h ≡ b → length b ≡ 8 → ((i : ℕ) → get_or b i 0 < 256) → IsHalf h
-half_from h b e len below = rw e (record { len = len; below = below })
-
 -- eight bytes of a text are a register
 pub part_half : (w : List ℕ) (k : ℕ) → k + 8 ≤ length w → ((i : ℕ) → get_or w i 0 < 256) → IsHalf (take 8 (drop k w))
 part_half w k fits below =

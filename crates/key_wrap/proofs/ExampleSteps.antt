@@ -2,8 +2,7 @@
 use Rattle.std.proofs.Common.{◌≡◌, ℕ, suc, [], ◌∷◌, refl, ap, ◌∙◌}
 use Rattle.aes_cmac.specs.Field.{times_bits, power, first_inverse, inverse, of_bits, affine, sub_byte}
 use Rattle.aes_cmac.specs.Aes.{xor16, sub_bytes, shift_rows, mix_columns, word, key_change, next_word, expanded, round_key, rounds, encrypted}
-use Rattle.key_wrap.specs.declared.registers.Registers.{Registers}
-use Rattle.key_wrap.specs.Wrap.{xor_step, start, step, after, registers_text, wrapped_key}
+use Rattle.key_wrap.specs.Wrap.{Registers, xor_step, start, step, after, registers_text, wrapped_key}
 use Rattle.key_wrap.specs.Example.{kek, key, IsExample}
 
 abbrev s1 : Registers

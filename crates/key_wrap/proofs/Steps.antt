@@ -4,8 +4,7 @@ use Rattle.std.proofs.lemmas.List.{take-append-drop, take_at, drop_at}
 use Rattle.aes_cmac.specs.Aes.{IsBlock, encrypted, decrypted}
 use Rattle.aes_cmac.proofs.Undo.{decrypted-encrypted}
 use Rattle.aes_cmac.proofs.Redo.{encrypted-decrypted}
-use Rattle.key_wrap.specs.declared.registers.Registers.{Registers}
-use Rattle.key_wrap.specs.Wrap.{xor_step, step, unstep}
+use Rattle.key_wrap.specs.Wrap.{Registers, xor_step, step, unstep}
 use Rattle.key_wrap.proofs.Bytes.{IsHalf, joined_block, first_half, second_half, IsHalf-xor_step, xor_step-xor_step, encrypted_block, decrypted_block}
 
 pub record IsWhole (s : Registers) : Type 0 where

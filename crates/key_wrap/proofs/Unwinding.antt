@@ -2,34 +2,32 @@
 use Rattle.std.proofs.Common.{◌≡◌, ℕ, zero, suc, ◌+◌, ◌-◌, ◌<◌, ◌≤◌, List, ◌++◌, length, take, drop, get_or, refl, ap, sym, ◌∙◌, arith, length-drop}
 use Rattle.std.proofs.lemmas.List.{take-append-drop, take_at, drop_at, take_all, drop-drop}
 use Rattle.aes_cmac.specs.Aes.{IsBlock}
-use Rattle.key_wrap.specs.declared.registers.Registers.{Registers}
-use Rattle.key_wrap.specs.Wrap.{initial_value, start, step, unstep, after, registers_of, registers_text, wrapped_key}
+use Rattle.key_wrap.specs.Wrap.{Registers, initial_value, start, step, unstep, after, registers_of, registers_text, wrapped_key}
 use Rattle.key_wrap.proofs.Bytes.{joined_block, first_half, second_half, part_half, below_8}
 use Rattle.key_wrap.proofs.Steps.{IsWhole, IsWhole-step, IsWhole-unstep, unstep-step, step-unstep}
 
--- one pass more
-pub pass_more : (kek : List ℕ) (s x : Registers) (n p q r : ℕ) → p ≡ n + 1 → q ≡ n + 2 → r ≡ n + 2 → x ≡ after kek s n
-    → step kek q (step kek p x) ≡ after kek s r
+-- one step more
+pub step_more : (kek : List ℕ) (s x : Registers) (n p : ℕ) → p ≡ n + 1 → x ≡ after kek s n → step kek p x ≡ after kek s p
 unfolding after
-pass_more kek s x n p q r hp hq hr e =
+step_more kek s x n p hp e =
     let ep : p ≡ suc n = omega arith in
-    let eq : q ≡ suc (suc n) = omega arith in
-    let er : r ≡ suc (suc n) = omega arith in
-    rw (ep, eq, er, e) refl
+    rw (ep, e) refl
 
 -- the registers after n of twelve steps were taken back
 unfoldable pub undone : List ℕ → Registers → ℕ → Registers
 undone kek s zero = s
 undone kek s (suc n) = unstep kek (12 - n) (undone kek s n)
 
--- one pass more is taken back
-pub back_more : (kek : List ℕ) (s x : Registers) (n p q r : ℕ) → q ≡ 12 - n → p ≡ 12 - (n + 1) → r ≡ n + 2 → x ≡ undone kek s n
-    → unstep kek p (unstep kek q x) ≡ undone kek s r
+-- one step more is taken back
+pub unstep_more : (kek : List ℕ) (s x : Registers) (n p : ℕ) → p ≡ n + 1 → x ≡ undone kek s n → unstep kek (12 - n) x ≡ undone kek s p
 unfolding undone
-back_more kek s x n p q r hq hp hr e =
-    let ep : p ≡ 12 - suc n = omega arith in
-    let er : r ≡ suc (suc n) = omega arith in
-    rw (ep, hq, er, e) refl
+unstep_more kek s x n p hp e =
+    let ep : p ≡ suc n = omega arith in
+    rw (ep, e) refl
+
+-- all twelve
+pub all_undone : (kek k : List ℕ) (s x : Registers) (n : ℕ) → k ≡ kek → n ≡ 12 → x ≡ undone k s n → x ≡ undone kek s 12
+all_undone kek k s x n ek en e = e ∙ ap (λ (j : List ℕ). undone j s n) ek ∙ ap (undone kek s) en
 
 IsWhole-after : (kek : List ℕ) (s : Registers) → ((i : ℕ) → get_or kek i 0 < 256) → IsWhole s → (t : ℕ) → IsWhole (after kek s t)
 unfolding after

@@ -3,7 +3,12 @@
 use Rattle.std.specs.Prelude.{ℕ, zero, suc, List, ◌++◌, take, drop, replicate, bit_xor}
 use Rattle.std.specs.Int.{w64, from_be_bytes, to_be_bytes}
 use Rattle.aes_cmac.specs.Aes.{encrypted, decrypted}
-use Rattle.key_wrap.specs.declared.registers.Registers.{Registers}
+
+-- the registers, each of 8 bytes
+pub record Registers : Type 0 where
+  pub a : List ℕ
+  pub r1 : List ℕ
+  pub r2 : List ℕ
 
 -- the initial value of A (2.2.3.1)
 abbrev pub initial_value : List ℕ

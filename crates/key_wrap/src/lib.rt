@@ -11,25 +11,16 @@ mod registers;
 mod tests;
 
 use aes_cmac::RoundKeys;
-use registers::{Registers, halves, joined};
-
-// The initial value of A (2.2.3.1).
-const INITIAL_VALUE: [u8; 8] = [0xa6; 8];
+use registers::Registers;
 
 /// The wrapping of `key` under `kek`, a key-encryption key: 24 bytes (RFC 3394, 2.2.1).
 pub fn wrap(kek: &[u8; 16], key: &[u8; 16]) -> [u8; 24]
     ensures { result ≡ wrapped_key kek.now key.now }
 {
     let keys = RoundKeys::new(kek);
-    let (r1, r2) = halves(*key);
-    let mut registers = Registers {
-        a: INITIAL_VALUE,
-        r1,
-        r2,
-    };
-    'passes: for pass in 0..6 {
-        let next = registers.pass(&keys, 2 * pass);
-        registers = next;
+    let mut registers = Registers::start(key);
+    'steps: for done in 0..12 {
+        registers = registers.step(&keys, done + 1);
     }
     registers.text()
 }
@@ -45,12 +36,11 @@ pub fn unwrap(kek: &[u8; 16], wrapped: &[u8; 24]) -> Option<[u8; 16]>
 {
     let keys = RoundKeys::new(kek);
     let mut registers = Registers::of(wrapped);
-    'unwinding: for pass in 0..6 {
-        let before = registers.back(&keys, 12 - 2 * pass);
-        registers = before;
+    'steps: for undone in 0..12 {
+        registers = registers.unstep(&keys, 12 - undone);
     }
-    if registers.a == INITIAL_VALUE {
-        Some(joined(registers.r1, registers.r2))
+    if registers.has_initial_value() {
+        Some(registers.key())
     } else {
         None
     }

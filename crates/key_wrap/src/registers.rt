@@ -1,29 +1,33 @@
-ghost use Rattle.std.specs.Prelude.{◌≡◌, ◌++◌, ◌+◌, ◌-◌, ◌<◌, ◌≤◌, length, take, drop};
-ghost use Rattle.aes_cmac.specs.Aes.{encrypted, decrypted};
-ghost use Rattle.key_wrap.specs.Wrap.{xor_step, step, unstep, registers_of, registers_text};
+ghost use Rattle.std.specs.Prelude.{◌≡◌, ◌↔◌, ◌++◌, take, drop, IsTrue};
+ghost use Rattle.key_wrap.specs.Wrap.{initial_value, xor_step, start, step, unstep};
+ghost use Rattle.key_wrap.specs.Wrap.{registers_of, registers_text};
 
-use aes_cmac::RoundKeys;
+use aes_cmac::{RoundKeys, same_bytes};
+use std::marker::Model;
+
+// The initial value of A (2.2.3.1).
+const INITIAL_VALUE: [u8; 8] = [0xa6; 8];
 
 // A, and the halves R[1] and R[2], each 64 bits, the highest byte first.
 #[derive(Clone, Copy)]
 pub(crate) struct Registers {
-    pub(crate) a: [u8; 8],
-    pub(crate) r1: [u8; 8],
-    pub(crate) r2: [u8; 8],
+    a: [u8; 8],
+    r1: [u8; 8],
+    r2: [u8; 8],
 }
 
-// A slice of 8 bytes as a register.
-fn half_of(bytes: &[u8]) -> [u8; 8]
-    requires { length bytes.now ≡ 8 }
-    ensures { result ≡ bytes.now }
-{
-    let mut half = [0; 8];
-    half.copy_from_slice(bytes);
-    half
+impl Model for Registers {
+    ghost use Rattle.key_wrap.specs.Wrap.{Registers};
+
+    ghost Value = { Registers };
+
+    ghost view = { λ s. record { a = s.a; r1 = s.r1; r2 = s.r2 } };
+
+    ghost inverse = { λ s. record { a = s.a; r1 = s.r1; r2 = s.r2 } };
 }
 
 // The block of two registers.
-pub(crate) fn joined(a: [u8; 8], r: [u8; 8]) -> [u8; 16]
+fn joined(a: [u8; 8], r: [u8; 8]) -> [u8; 16]
     ensures { result ≡ a ++ r }
 {
     let mut block = [0; 16];
@@ -33,53 +37,79 @@ pub(crate) fn joined(a: [u8; 8], r: [u8; 8]) -> [u8; 16]
 }
 
 // The two registers of a block.
-pub(crate) fn halves(b: [u8; 16]) -> ([u8; 8], [u8; 8])
-    ensures first { result.0 ≡ take 8 b }
-    ensures second { result.1 ≡ drop 8 b }
+fn halves(block: [u8; 16]) -> ([u8; 8], [u8; 8])
+    ensures first { result.0 ≡ take 8 block }
+    ensures second { result.1 ≡ drop 8 block }
 {
-    (
-        [b[0], b[1], b[2], b[3], b[4], b[5], b[6], b[7]],
-        [b[8], b[9], b[10], b[11], b[12], b[13], b[14], b[15]],
-    )
+    let (parts, _) = block.as_chunks::<8>();
+    (parts[0], parts[1])
 }
 
 #[tactic(auto, unfolding(crate::specs::Wrap::xor_step))]
-fn xor_step(a: [u8; 8], step: u64) -> [u8; 8]
-    ensures { result ≡ xor_step a step }
+fn xor_step(a: [u8; 8], t: u64) -> [u8; 8]
+    ensures { result ≡ xor_step a t }
 {
-    (u64::from_be_bytes(a) ^ step).to_be_bytes()
-}
-
-// One step: A and the half that it changes.
-fn forward(keys: &RoundKeys, a: [u8; 8], half: [u8; 8], step: u64) -> ([u8; 8], [u8; 8])
-    ensures first { result.0 ≡ xor_step (take 8 (encrypted keys.now (a ++ half))) step }
-    ensures second { result.1 ≡ drop 8 (encrypted keys.now (a ++ half)) }
-{
-    let (high, low) = halves(keys.encrypt(joined(a, half)));
-    (xor_step(high, step), low)
-}
-
-// One step taken back.
-fn back(keys: &RoundKeys, a: [u8; 8], half: [u8; 8], step: u64) -> ([u8; 8], [u8; 8])
-    ensures first { result.0 ≡ take 8 (decrypted keys.now (xor_step a step ++ half)) }
-    ensures second { result.1 ≡ drop 8 (decrypted keys.now (xor_step a step ++ half)) }
-{
-    halves(keys.decrypt(joined(xor_step(a, step), half)))
+    (u64::from_be_bytes(a) ^ t).to_be_bytes()
 }
 
 impl Registers {
-    // Those of a wrapped key.
-    pub(crate) fn of(w: &[u8; 24]) -> Registers
-        ensures { result ≡ registers_of w.now }
+    // Those of a key, before the first step.
+    pub(crate) fn start(key: &[u8; 16]) -> Registers
+        ensures { result ≡ start key.now }
     {
+        let (r1, r2) = halves(*key);
         Registers {
-            a: half_of(&w[..8]),
-            r1: half_of(&w[8..16]),
-            r2: half_of(&w[16..24]),
+            a: INITIAL_VALUE,
+            r1,
+            r2,
         }
     }
 
-    // A wrapped key.
+    // Those of a wrapped key.
+    pub(crate) fn of(wrapped: &[u8; 24]) -> Registers
+        ensures { result ≡ registers_of wrapped.now }
+    {
+        let (parts, _) = wrapped.as_chunks::<8>();
+        Registers {
+            a: parts[0],
+            r1: parts[1],
+            r2: parts[2],
+        }
+    }
+
+    #[tactic(auto, unfolding(crate::specs::Wrap::step))]
+    pub(crate) fn step(self, keys: &RoundKeys, t: u64) -> Registers
+        ensures { result ≡ step keys.now t self }
+    {
+        let (high, r2) = halves(keys.encrypt(joined(self.a, self.r1)));
+        let a = xor_step(high, t);
+        let r1 = self.r2;
+        Registers { a, r1, r2 }
+    }
+
+    #[tactic(auto, unfolding(crate::specs::Wrap::unstep))]
+    pub(crate) fn unstep(self, keys: &RoundKeys, t: u64) -> Registers
+        ensures { result ≡ unstep keys.now t self }
+    {
+        let (a, r1) = halves(keys.decrypt(joined(xor_step(self.a, t), self.r2)));
+        let r2 = self.r1;
+        Registers { a, r1, r2 }
+    }
+
+    // The check of a key that is unwrapped (2.2.3).
+    pub(crate) fn has_initial_value(&self) -> bool
+        ensures { IsTrue result ↔ (self.now.a ≡ initial_value) }
+    {
+        same_bytes(&self.a, &INITIAL_VALUE)
+    }
+
+    pub(crate) fn key(self) -> [u8; 16]
+        ensures { result ≡ self.r1 ++ self.r2 }
+    {
+        joined(self.r1, self.r2)
+    }
+
+    // The wrapped key.
     pub(crate) fn text(self) -> [u8; 24]
         ensures { result ≡ registers_text self }
     {
@@ -87,27 +117,5 @@ impl Registers {
         text[..16].copy_from_slice(&joined(self.a, self.r1));
         text[16..].copy_from_slice(&self.r2);
         text
-    }
-
-    // A pass: the two steps that follow `steps` steps, the first at R[1] and the second at R[2].
-    #[tactic(auto, unfolding(crate::specs::Wrap::step))]
-    pub(crate) fn pass(self, keys: &RoundKeys, steps: u64) -> Registers
-        requires { steps < 12 }
-        ensures { result ≡ step keys.now (steps + 2) (step keys.now (steps + 1) self) }
-    {
-        let (a, r1) = forward(keys, self.a, self.r1, steps + 1);
-        let (a, r2) = forward(keys, a, self.r2, steps + 2);
-        Registers { a, r1, r2 }
-    }
-
-    // The pass that ended with `steps` steps, taken back.
-    #[tactic(auto, unfolding(crate::specs::Wrap::unstep))]
-    pub(crate) fn back(self, keys: &RoundKeys, steps: u64) -> Registers
-        requires { 2 ≤ steps }
-        ensures { result ≡ unstep keys.now (steps - 1) (unstep keys.now steps self) }
-    {
-        let (a, r2) = back(keys, self.a, self.r2, steps);
-        let (a, r1) = back(keys, a, self.r1, steps - 1);
-        Registers { a, r1, r2 }
     }
 }

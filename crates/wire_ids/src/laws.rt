@@ -1,7 +1,8 @@
 //! Laws of the definitions, that speak of all identifiers.
 
-ghost use Rattle.std.specs.Prelude.{◌≡◌, ◌≢◌, ◌<◌, ◌*◌, ◌^◌, ◌↔◌, ◌∷◌, [], ℕ, List, length, Ok, Err};
-ghost use Rattle.std.specs.Prelude.{Bool, Option, Some, None, false, option_map, slice_get};
+ghost use Rattle.std.specs.Prelude.{◌≡◌, ◌≢◌, ◌<◌, ◌*◌, ◌^◌, ◌↔◌, ℕ, List, ◌∷◌, [], length};
+ghost use Rattle.std.specs.Prelude.{Bool, Option, Some, None, Ok, Err, false};
+ghost use Rattle.std.specs.Prelude.{option_map, slice_get};
 ghost use Rattle.wire_ids.specs.Addresses.{HasSameIdentifier, SharesAnAddress};
 ghost use Rattle.wire_ids.specs.Decisions.{entry_of, reply_by};
 ghost use Rattle.wire_ids.specs.Digits.{IsFirstBad, id_bytes, without_prefix};
@@ -56,8 +57,8 @@ pub fn one_element_changes<X>()
 /// A request makes an entry only where no answer was kept for it, no open ask has its body and no
 /// cause stands against it; the entry is then that of its success.
 pub fn entries_are_of_successes<A, Q, E, C>()
-    ensures { (refused : C → A) (waits : C) (kept : Option (List ℕ)) (asked : Bool) (cause : Option C)
-        (success : Decision A Q E) (e : E)
+    ensures { (refused : C → A) (waits : C) (kept : Option (List ℕ)) (asked : Bool)
+        (cause : Option C) (success : Decision A Q E) (e : E)
         → entry_of (reply_by refused waits kept asked cause success) ≡ Some e
         → (kept ≡ None) × (asked ≡ false) × (cause ≡ None) × (entry_of success ≡ Some e) }
 {}

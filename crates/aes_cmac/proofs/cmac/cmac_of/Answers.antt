@@ -1,0 +1,8 @@
+use Rattle.aes_cmac.proofs.MacFacts.{mac_from}
+use Rattle.aes_cmac.proofs.cmac.cmac_of.Goals as goal
+
+pub returns : goal.returns
+returns g c =
+    rw (c.encrypt_block.ensures, c.xor16.ensures)
+    (mac_from (g.C.BlockCipher.key c.args.cipher.now) c.args.text.now c.chained-chain.result c.last_changed.result _ _ _ c.before_last.ensures c.split_at.ensures.front c.split_at.ensures.back
+    c.chained-chain.ensures c.last_changed.ensures)

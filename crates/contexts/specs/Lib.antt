@@ -1,0 +1,4 @@
+pub mod Contexts
+pub mod Queue
+pub mod Slots
+pub mod Sound

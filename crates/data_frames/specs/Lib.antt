@@ -1,0 +1,4 @@
+pub mod DataForms
+pub mod Counts
+pub mod Mics
+pub mod Downlinks

@@ -1,0 +1,178 @@
+// Message integrity codes (LoRaWAN 1.1, 4.4).
+ghost use Rattle.std.specs.Prelude.{◌≡◌, ◌<◌, ◌≤◌, ◌↔◌, ◌++◌, ℕ, length, IsTrue};
+ghost use Rattle.std.specs.Prelude.{IfSome, IfNone};
+ghost use Rattle.aes_cmac.specs.Mac.{mac};
+ghost use Rattle.data_frames.specs.Mics.{Fits, HasFHalf, HasSHalf, IsChannel, IsEnabled, f_half};
+ghost use Rattle.data_frames.specs.Mics.{mic_block, s_half};
+
+use crate::DataUp;
+use aes_cmac::{Cmac, RoundKeys, same_bytes};
+use wire_ids::{DevAddr, SessionKeys};
+
+/// What a MIC's first block tells beside the frame's address, counter and length.
+#[derive(Clone, Copy)]
+pub(crate) struct BlockFields {
+    pub conf: u16,
+    pub rate: u8,
+    pub channel: u8,
+    pub dir: u8,
+}
+
+fn mic_block(fields: BlockFields, addr: DevAddr, count: u32, len: u8) -> [u8; 16]
+    ensures { result ≡ mic_block fields.conf fields.rate fields.channel fields.dir addr count len }
+{
+    let [conf_low, conf_high] = fields.conf.to_le_bytes();
+    let mut block = [0; 16];
+    block[..6].copy_from_slice(&[
+        0x49,
+        conf_low,
+        conf_high,
+        fields.rate,
+        fields.channel,
+        fields.dir,
+    ]);
+    block[6..10].copy_from_slice(&addr.to_wire());
+    block[10..14].copy_from_slice(&count.to_le_bytes());
+    block[15] = len;
+    block
+}
+
+// The CMAC of the block and the message.
+pub(crate) fn mac_of(
+    keys: &RoundKeys,
+    fields: BlockFields,
+    addr: DevAddr,
+    count: u32,
+    message: &[u8],
+) -> [u8; 16]
+    requires { length message.now ≤ 255 }
+    ensures { result ≡ mac keys.now
+        (mic_block fields.conf fields.rate fields.channel fields.dir addr count (length message.now)
+        ++ message.now) }
+{
+    let block = mic_block(fields, addr, count, message.len() as u8);
+    let mut mac = Cmac::new(keys);
+    mac.update(&block);
+    mac.update(message);
+    mac.finish()
+}
+
+// The two bytes of cmacF.
+#[tactic(auto, unfolding(crate::specs::Mics::f_half))]
+pub(crate) fn f_half(f: &[u8; 16], addr: DevAddr, count: u32, message: &[u8]) -> [u8; 2]
+    requires { length message.now ≤ 255 }
+    ensures { result ≡ f_half f.now addr count message.now }
+{
+    let fields = BlockFields {
+        conf: 0,
+        rate: 0,
+        channel: 0,
+        dir: 0,
+    };
+    let mac = mac_of(&RoundKeys::new(f), fields, addr, count, message);
+    [mac[0], mac[1]]
+}
+
+/// What an uplink's S half tells beside its F half.
+#[derive(Clone, Copy)]
+pub(crate) struct B1Fields {
+    pub conf: u16,
+    pub rate: u8,
+    pub channel: u8,
+}
+
+// The two bytes of cmacS.
+#[tactic(auto, unfolding(crate::specs::Mics::s_half))]
+pub(crate) fn s_half(
+    keys: &RoundKeys,
+    addr: DevAddr,
+    count: u32,
+    sent: B1Fields,
+    message: &[u8],
+) -> [u8; 2]
+    requires { length message.now ≤ 255 }
+    ensures { result ≡ s_half keys.now addr count sent.conf sent.rate sent.channel message.now }
+{
+    let fields = BlockFields {
+        conf: sent.conf,
+        rate: sent.rate,
+        channel: sent.channel,
+        dir: 0,
+    };
+    let mac = mac_of(keys, fields, addr, count, message);
+    [mac[0], mac[1]]
+}
+
+/// Whether the last two bytes of the frame are those of its F half under FNwkSIntKey, at this
+/// counter (LoRaWAN 1.1, 4.4).
+pub fn mic_f_ok(f: &[u8; 16], up: &DataUp<'_>, count: u32) -> bool
+    requires least { 4 ≤ length up.now.whole.now }
+    requires most { length up.now.whole.now ≤ 255 }
+    ensures { IsTrue result ↔ HasFHalf f.now up.now count }
+{
+    let message = &up.whole[..up.whole.len() - 4];
+    let half = f_half(f, up.addr, count, message);
+    same_bytes(&up.mic[2..], &half)
+}
+
+// Whether the S half is that of the frame as it was sent.
+fn has_s_half(keys: &RoundKeys, up: &DataUp<'_>, count: u32, sent: B1Fields) -> bool
+    requires least { 4 ≤ length up.now.whole.now }
+    requires most { length up.now.whole.now ≤ 255 }
+    ensures { IsTrue result ↔ HasSHalf keys.now up.now count sent.conf sent.rate sent.channel }
+{
+    let message = &up.whole[..up.whole.len() - 4];
+    let half = s_half(keys, up.addr, count, sent, message);
+    same_bytes(&up.mic[..2], &half)
+}
+
+fn is_enabled(channels: u8, channel: u8) -> bool
+    requires { channel < 8 }
+    ensures { IsTrue result ↔ IsEnabled channels channel }
+{
+    channels >> channel & 1 == 1
+}
+
+// Whether the channel is enabled, and the S half that of the frame on it.
+fn fits(keys: &RoundKeys, up: &DataUp<'_>, count: u32, channels: u8, sent: B1Fields) -> bool
+    requires channel { sent.channel < 8 }
+    requires least { 4 ≤ length up.now.whole.now }
+    requires most { length up.now.whole.now ≤ 255 }
+    ensures { IsTrue result ↔ IsEnabled channels sent.channel
+        × HasSHalf keys.now up.now count sent.conf sent.rate sent.channel }
+{
+    is_enabled(channels, sent.channel) && has_s_half(keys, up, count, sent)
+}
+
+/// The channel of an uplink: the least of the enabled ones, whose bits are set in `channels`, on
+/// which its MIC is that of this counter, ConfFCnt `conf` and TxDr `rate` (LoRaWAN 1.1, 4.4). None
+/// exactly where there is no such channel. The F half, in which no channel stands, is tried first.
+pub fn mic_up_ok(
+    keys: &SessionKeys,
+    up: &DataUp<'_>,
+    count: u32,
+    conf: u16,
+    rate: u8,
+    channels: u8,
+) -> Option<u8>
+    requires least { 4 ≤ length up.now.whole.now }
+    requires most { length up.now.whole.now ≤ 255 }
+    ensures channel { IfSome result (λ k. IsChannel keys.now up.now count conf rate channels k) }
+    ensures none { IfNone result ((k : ℕ) → ¬ Fits keys.now up.now count conf rate channels k) }
+{
+    if !mic_f_ok(&keys.f, up, count) {
+        return None;
+    }
+    let s = RoundKeys::new(&keys.s);
+    'channels: for channel in 0..8 {
+        let sent = B1Fields {
+            conf,
+            rate,
+            channel,
+        };
+        if fits(&s, up, count, channels, sent) {
+            return Some(channel);
+        }
+    }
+    None
+}

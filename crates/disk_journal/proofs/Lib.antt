@@ -1,0 +1,13 @@
+pub mod Append
+pub mod Pieces
+pub mod Places
+pub mod Put
+pub mod Reading
+pub mod Records
+pub mod Recovered
+pub mod Reopen
+pub mod Results
+pub mod Runs
+pub mod Walking
+pub mod WindowLemmas
+pub mod Writes

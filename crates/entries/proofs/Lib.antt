@@ -1,0 +1,4 @@
+pub mod Names
+pub mod Changes
+pub mod Asks
+pub mod Entries

@@ -1,0 +1,5 @@
+pub mod Names
+pub mod Changes
+pub mod Asks
+pub mod Entries
+pub mod Reads

@@ -9,7 +9,7 @@ use std::alloc::Global;
 use wire_ids::{PeerId, Sender, Text};
 
 /// The five members that every message has.
-#[derive(PartialEq, Eq, Drop)]
+#[derive(Drop)]
 pub struct Head {
     /// ProtocolVersion, any text.
     pub protocol_version: Text,

@@ -11,7 +11,7 @@ use std::alloc::Global;
 use wire_ids::Memory;
 
 /// A member that is read.
-#[derive(Clone, Copy, Debug, PartialEq, Eq)]
+#[derive(Clone, Copy)]
 pub(crate) enum Key {
     ProtocolVersion,
     SenderId,
@@ -60,7 +60,7 @@ impl Key {
 }
 
 /// Why a member isn't given.
-#[derive(Clone, Copy, Debug, PartialEq, Eq)]
+#[derive(Clone, Copy)]
 pub(crate) enum Gap {
     /// It is missing or ill-formed.
     Member(Key),

@@ -11,7 +11,7 @@ use std::alloc::Global;
 use wire_ids::{Memory, Text};
 
 /// A readable message.
-#[derive(PartialEq, Eq, Drop)]
+#[derive(Drop)]
 pub struct Message {
     pub head: Head,
     /// What it asks, of the head's type.
@@ -20,7 +20,7 @@ pub struct Message {
 
 /// Why a body is no readable message: the first cause in the order `TooLong`, `NotJson`, `Member`,
 /// `Version`.
-#[derive(PartialEq, Eq, Drop)]
+#[derive(Drop)]
 pub enum Bad {
     /// It is no JSON text, or no object.
     NotJson,

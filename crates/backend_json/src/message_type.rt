@@ -1,6 +1,6 @@
 ghost use Rattle.std.specs.Prelude.{◌≡◌};
-ghost use Rattle.backend_json.specs.Types.{answer_name, name_of, receiver_of, sender_of, type_named};
-ghost use Rattle.backend_json.specs.Types.{type_row};
+ghost use Rattle.backend_json.specs.Types.{answer_name, name_of, receiver_of, sender_of};
+ghost use Rattle.backend_json.specs.Types.{type_named, type_row};
 
 /// Of which kind the senders of a message are.
 #[derive(Clone, Copy, Debug, PartialEq, Eq)]

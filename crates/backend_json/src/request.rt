@@ -10,7 +10,7 @@ use std::alloc::Global;
 use wire_ids::{DevAddr, Eui, Radio, Text};
 
 /// The members of a JoinReq.
-#[derive(PartialEq, Eq, Drop)]
+#[derive(Drop)]
 pub struct JoinRequest {
     /// MACVersion, any text.
     pub mac_version: Text,
@@ -24,14 +24,14 @@ pub struct JoinRequest {
 }
 
 /// The members of an AppSKeyReq.
-#[derive(Clone, Copy, Debug, PartialEq, Eq)]
+#[derive(Clone, Copy)]
 pub struct AppSKeyRequest {
     pub dev_eui: Eui,
     pub session_key_id: SessionKeyId,
 }
 
 /// What a message asks: the members that its type has beside the head.
-#[derive(PartialEq, Eq, Drop)]
+#[derive(Drop)]
 pub enum Request {
     JoinReq(JoinRequest),
     AppSKeyReq(AppSKeyRequest),

@@ -1,5 +1,6 @@
 ghost use Rattle.std.specs.Prelude.{◌≡◌, ◌≤◌, None, IsErr};
 ghost use Rattle.std.specs.Io.{ReadsAtMost};
+ghost use Rattle.std.specs.Io.KnownBytes.{ReadConsumes};
 ghost use Rattle.wire_ids.specs.Causes.{HasCause, Rose};
 
 use disk_model::{Clock, Failed, Sink, Source};
@@ -70,7 +71,8 @@ impl<W: Write> Sink for WriteSink<W> {
     }
 }
 
-/// A file that is read. Where it couldn't be opened, each call fails and is counted.
+/// A file that is read, which tells what std's file tells. Where it couldn't be opened, each call
+/// fails and is counted.
 #[derive(Drop)]
 pub struct FileSource<F: Read> {
     file: Option<F>,
@@ -87,22 +89,27 @@ impl<F: Read + Drop> FileSource<F> {
 }
 
 impl<F: Read> Source for FileSource<F> {
-    ghost left = { λ s. None };
+    ghost use Rattle.desk_main.specs.Files.{file_left};
+
+    ghost left = { λ s. file_left F.remaining s.file };
 
     ghost faults = { λ s. s.faults };
 
     fn read(&mut self, room: &mut [u8]) -> Result<usize, Failed>
         ensures bound { ReadsAtMost result room.new }
+        ensures bytes { ReadConsumes (file_left F.remaining self.old.file)
+            (file_left F.remaining self.new.file) result room.new }
         ensures cause { HasCause self.old.faults self.new.faults result }
         ensures closed { self.old.file ≡ None → IsErr result }
         ensures stays { self.old.file ≡ None → self.new.file ≡ None }
     {
-        if let Some(file) = &mut self.file {
-            if let Ok(count) = file.read(room) {
-                return Ok(count);
-            }
+        match &mut self.file {
+            Some(file) => match file.read(room) {
+                Ok(count) => Ok(count),
+                Err(_) => Err(failed(&mut self.faults)),
+            },
+            None => Err(failed(&mut self.faults)),
         }
-        Err(failed(&mut self.faults))
     }
 }
 

@@ -2,14 +2,19 @@
 #![tactic(auto)]
 
 mod adapters;
+mod help;
 #[cfg(test)]
 mod tests;
 
-ghost use Rattle.std.specs.Prelude.{◌≡◌, ◌<◌};
+ghost use Rattle.std.specs.Prelude.{◌≡◌, ◌<◌, ◌↔◌, ◌⊎◌};
+ghost use Rattle.std.specs.Process.{exit_status};
+ghost use Rattle.desk_top.specs.Words.{SpellsNone};
+ghost use Rattle.desk_main.specs.Help.{IsHelp};
 
 use adapters::{FileSource, ReadSource, WallClock, WriteSink};
 use desk_top::{files_of, run};
 use disk_model::{ClosedDisk, ClosedLink, Ran, Steps};
+use help::{is_help, print_help};
 use std::marker::Brand;
 use std::process::ExitCode;
 use std::rt::Env;
@@ -17,7 +22,7 @@ use std::sync::ledger::{Blank, Ledger};
 use std::{env, fs, io};
 
 // The status of want of memory.
-const WANT_OF_MEMORY: u8 = 10;
+pub(crate) const WANT_OF_MEMORY: u8 = 10;
 
 // The words behind the program's name.
 fn words<R: Env + AllocGlobal>(rt: &R) -> io::Result<Vec<String>> {
@@ -35,27 +40,33 @@ fn tables_file(rt: &HostRuntime, words: &[String]) -> Option<fs::File> {
     fs::File::open(rt, path.as_str()).ok()
 }
 
-fn work<G: Ledger>(rt: &HostRuntime, words: &[String], blank: Blank) -> u8
+// Does what the words ask, and hands the status to the system.
+fn work<G: Ledger>(rt: &HostRuntime, words: &[String], blank: Blank) -> ExitCode
     requires name { blank.name ≡ G.name }
     requires parts { blank.parts ≡ G.parts }
     requires some { 0 < blank.parts }
+    // The help is printed exactly where it is asked for, and else 2 says that the words are no
+    // command.
+    ensures help { IsHelp words.now → (exit_status result ≡ 0) ⊎ (exit_status result ≡ 5)
+        ⊎ (exit_status result ≡ 10) }
+    ensures usage { (IsHelp words.now → ⊥) → ((exit_status result ≡ 2) ↔ SpellsNone words.now) }
 {
-    let mut steps = Steps::<G>::new(blank);
-    let mut tables = FileSource::new(tables_file(rt, words));
-    let mut input = ReadSource::new(rt.reader());
     let mut out = WriteSink::new(io::writer(rt));
+    if is_help(words) {
+        return ExitCode::from(print_help(rt.alloc(), &mut out));
+    }
     let Ran { status, disks: _ } = run(
         rt.alloc(),
         words,
-        &mut tables,
-        &mut input,
+        &mut FileSource::new(tables_file(rt, words)),
+        &mut ReadSource::new(rt.reader()),
         &mut out,
         ClosedDisk::new(),
         &mut ClosedLink::new(),
         &mut WallClock::new(rt),
-        &mut steps,
+        &mut Steps::<G>::new(blank),
     );
-    status
+    ExitCode::from(status)
 }
 
 // Words that can't be read count as none.
@@ -67,5 +78,5 @@ fn main(rt: HostRuntime) -> ExitCode {
         }
         Err(_) => Vec::new(rt.alloc()),
     };
-    ExitCode::from(work::<Brand>(&rt, &words, Blank::new(1)))
+    work::<Brand>(&rt, &words, Blank::new(1))
 }

@@ -16,7 +16,7 @@ use Rattle.desk_top.specs.Commands.{Answered}
 use Rattle.desk_top.specs.Faults.{IsOfLines}
 use Rattle.desk_top.specs.Turns.{GoesOn, IsUnderWay, WritesAll, WritesFront, WritesTaken, WritesWhole}
 use Rattle.desk_top.specs.declared.fault.Fault.{Fault}
-use Rattle.desk_top.specs.declared.fault.Fault.TheVariants.{Usage, Tables, Read, Write, TooMuch, Memory}
+use Rattle.desk_top.specs.declared.fault.Fault.TheVariants.{Usage, Refused, TablesRead, InputRead, Write, TooMuch, Memory}
 use Rattle.desk_top.proofs.TurnLemmas.{front_none, not_none}
 
 -- no line has its end in the front
@@ -70,18 +70,20 @@ much_under_way limit n c s now (Some a) (Some b) (Some left) out w w' u stops k 
 -- the fault says it exactly where more was taken
 pub told_too_much : {T : Type 0} (r : Result T Fault) (e : Fault) (k n : ℕ) → r ≡ Err e → (e ≢ TooMuch → n ≤ k) → (e ≡ TooMuch → k < n) → (r ≡ Err TooMuch) ↔ (k < n)
 told_too_much r Usage k n is other much = (λ h. cc (is, h), λ l. absurd (omega (arith, other (λ h. cc))))
-told_too_much r (Tables f) k n is other much = (λ h. cc (is, h), λ l. absurd (omega (arith, other (λ h. cc))))
-told_too_much r Read k n is other much = (λ h. cc (is, h), λ l. absurd (omega (arith, other (λ h. cc))))
+told_too_much r (Refused line) k n is other much = (λ h. cc (is, h), λ l. absurd (omega (arith, other (λ h. cc))))
+told_too_much r TablesRead k n is other much = (λ h. cc (is, h), λ l. absurd (omega (arith, other (λ h. cc))))
+told_too_much r InputRead k n is other much = (λ h. cc (is, h), λ l. absurd (omega (arith, other (λ h. cc))))
 told_too_much r Write k n is other much = (λ h. cc (is, h), λ l. absurd (omega (arith, other (λ h. cc))))
 told_too_much r TooMuch k n is other much = (λ h. much refl, λ l. is)
 told_too_much r Memory k n is other much = (λ h. cc (is, h), λ l. absurd (omega (arith, other (λ h. cc))))
 
 -- what a fault within the lines leaves
 pub answered_err : (limit : ℕ) (c : Config) (a b out w : Option (List ℕ)) (r : Result (Unit {0}) Fault) (e : Fault) → r ≡ Err e → IsOfLines e → WritesFront c (fresh c) a out w
-    → (e ≡ Read → WritesWhole limit c (fresh c) a b out w) → (e ≡ TooMuch → WritesTaken limit c (fresh c) a b out w) → Answered limit c a b out w r
+    → (e ≡ InputRead → WritesWhole limit c (fresh c) a b out w) → (e ≡ TooMuch → WritesTaken limit c (fresh c) a b out w) → Answered limit c a b out w r
 answered_err limit c a b out w r Usage is kind front read much = absurd kind
-answered_err limit c a b out w r (Tables f) is kind front read much = absurd kind
-answered_err limit c a b out w r Read is kind front read much = subst (λ (t : Result (Unit {0}) Fault). Answered limit c a b out w t) (sym is) (read refl)
+answered_err limit c a b out w r (Refused line) is kind front read much = absurd kind
+answered_err limit c a b out w r TablesRead is kind front read much = absurd kind
+answered_err limit c a b out w r InputRead is kind front read much = subst (λ (t : Result (Unit {0}) Fault). Answered limit c a b out w t) (sym is) (read refl)
 answered_err limit c a b out w r Write is kind front read much = subst (λ (t : Result (Unit {0}) Fault). Answered limit c a b out w t) (sym is) front
 answered_err limit c a b out w r TooMuch is kind front read much = subst (λ (t : Result (Unit {0}) Fault). Answered limit c a b out w t) (sym is) (much refl)
 answered_err limit c a b out w r Memory is kind front read much = subst (λ (t : Result (Unit {0}) Fault). Answered limit c a b out w t) (sym is) front
@@ -92,8 +94,9 @@ answered_ok limit c a b out w r is all end = subst (λ (t : Result (Unit {0}) Fa
 -- no more is taken than one byte too many
 pub told_most : (e : Fault) (k n : ℕ) → (e ≢ TooMuch → n ≤ k) → (e ≡ TooMuch → n ≡ k + 1) → n ≤ k + 1
 told_most Usage k n other much = omega (arith, other (λ h. cc))
-told_most (Tables f) k n other much = omega (arith, other (λ h. cc))
-told_most Read k n other much = omega (arith, other (λ h. cc))
+told_most (Refused line) k n other much = omega (arith, other (λ h. cc))
+told_most TablesRead k n other much = omega (arith, other (λ h. cc))
+told_most InputRead k n other much = omega (arith, other (λ h. cc))
 told_most Write k n other much = omega (arith, other (λ h. cc))
 told_most TooMuch k n other much = omega (arith, much refl)
 told_most Memory k n other much = omega (arith, other (λ h. cc))

@@ -1,7 +1,9 @@
 pub mod Alike
 pub mod CommandLemmas
-pub mod Completeness
 pub mod EndLemmas
+pub mod OpeningLemmas
+pub mod PromiseLemmas
 pub mod Results
+pub mod StatusLemmas
 pub mod Texts
 pub mod TurnLemmas

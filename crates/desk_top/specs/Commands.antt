@@ -1,5 +1,5 @@
 -- What a command brings about.
-use Rattle.std.specs.Prelude.{◌⊎◌, ℕ, ◌^◌, ◌≤◌, List, [], ◌∷◌, ◌++◌, length, Option, Some, None, Result, Ok, Err}
+use Rattle.std.specs.Prelude.{◌⊎◌, ℕ, ◌^◌, ◌≤◌, List, length, Option, Some, None, Result, Ok, Err}
 use Rattle.std.specs.Io.KnownBytes.{Appends, IsAtEnd, Keeps}
 use Rattle.disk_model.specs.Written.{AppendsFront}
 use Rattle.agreements.specs.Walk.{Config}
@@ -11,7 +11,7 @@ use Rattle.desk_top.specs.Turns.{WritesAll, WritesFront, WritesTaken, WritesWhol
 use Rattle.desk_top.specs.declared.words.Command.{Command}
 use Rattle.desk_top.specs.declared.words.Command.TheVariants.{Check, Answer}
 use Rattle.desk_top.specs.declared.fault.Fault.{Fault}
-use Rattle.desk_top.specs.declared.fault.Fault.TheVariants.{Usage, Tables, Read, Write, TooMuch, Memory}
+use Rattle.desk_top.specs.declared.fault.Fault.TheVariants.{Usage, Refused, TablesRead, InputRead, Write, TooMuch, Memory}
 
 -- the tables are valid, over them each answer has the keys to which its receiver is entitled, and all lines have their answer
 abbrev pub AnswersAll : Option (List ℕ) → Option (List ℕ) → Option (List ℕ) → Option (List ℕ) → Type 0
@@ -31,31 +31,33 @@ AnswersWhole text before after out written = (c : Config) × ReadsTables text (O
 
 -- the tables are valid, and their counts were written
 abbrev pub ChecksAll : Option (List ℕ) → Option (List ℕ) → Option (List ℕ) → Type 0
-ChecksAll text out written = (c : Config) × ReadsTables text (Ok c) × Appends out written (counts_line c ++ 10 ∷ [])
+ChecksAll text out written = (c : Config) × ReadsTables text (Ok c) × Appends out written (counts_line c)
 
 -- the tables are valid, and a front of their counts was written
 abbrev pub ChecksFront : Option (List ℕ) → Option (List ℕ) → Option (List ℕ) → Type 0
-ChecksFront text out written = (c : Config) × ReadsTables text (Ok c) × AppendsFront out written (counts_line c ++ 10 ∷ [])
+ChecksFront text out written = (c : Config) × ReadsTables text (Ok c) × AppendsFront out written (counts_line c)
 
 -- what stands written after the counts were printed, by how that ended
 abbrev pub Counted : Config → Option (List ℕ) → Option (List ℕ) → Result (Unit {0}) Fault → Type 0
-Counted c out written (Ok u) = Appends out written (counts_line c ++ 10 ∷ [])
-Counted c out written (Err Write) = AppendsFront out written (counts_line c ++ 10 ∷ [])
+Counted c out written (Ok u) = Appends out written (counts_line c)
+Counted c out written (Err Write) = AppendsFront out written (counts_line c)
 Counted c out written (Err Memory) = Keeps out written
 Counted c out written (Err Usage) = ⊥
-Counted c out written (Err (Tables refusal)) = ⊥
-Counted c out written (Err Read) = ⊥
+Counted c out written (Err (Refused line)) = ⊥
+Counted c out written (Err TablesRead) = ⊥
+Counted c out written (Err InputRead) = ⊥
 Counted c out written (Err TooMuch) = ⊥
 
 -- what stands written after the lines were answered, by how that ended
 abbrev pub Answered : ℕ → Config → Option (List ℕ) → Option (List ℕ) → Option (List ℕ) → Option (List ℕ) → Result (Unit {0}) Fault → Type 0
 Answered limit c before after out written (Ok u) = WritesAll c (fresh c) before out written × IsAtEnd after
-Answered limit c before after out written (Err Read) = WritesWhole limit c (fresh c) before after out written
+Answered limit c before after out written (Err InputRead) = WritesWhole limit c (fresh c) before after out written
 Answered limit c before after out written (Err TooMuch) = WritesTaken limit c (fresh c) before after out written
 Answered limit c before after out written (Err Write) = WritesFront c (fresh c) before out written
 Answered limit c before after out written (Err Memory) = WritesFront c (fresh c) before out written
 Answered limit c before after out written (Err Usage) = ⊥
-Answered limit c before after out written (Err (Tables refusal)) = ⊥
+Answered limit c before after out written (Err (Refused line)) = ⊥
+Answered limit c before after out written (Err TablesRead) = ⊥
 
 -- what a command leaves behind before its last line is printed, by how it ended
 abbrev pub Did : Command → Option (List ℕ) → Option (List ℕ) → Option (List ℕ) → Option (List ℕ) → Option (List ℕ) → Result (Unit {0}) Fault → Type 0
@@ -63,16 +65,18 @@ Did Check text before after out written (Ok u) = ChecksAll text out written
 Did Check text before after out written (Err Write) = ChecksFront text out written
 Did Check text before after out written (Err Memory) = Keeps out written
 Did Check text before after out written (Err Usage) = ⊥
-Did Check text before after out written (Err (Tables refusal)) = Keeps out written
-Did Check text before after out written (Err Read) = Keeps out written
+Did Check text before after out written (Err (Refused line)) = Keeps out written
+Did Check text before after out written (Err TablesRead) = Keeps out written
+Did Check text before after out written (Err InputRead) = ⊥
 Did Check text before after out written (Err TooMuch) = ⊥
 Did Answer text before after out written (Ok u) = AnswersAll text before out written × IsAtEnd after
-Did Answer text before after out written (Err Read) = (Keeps before after × Keeps out written) ⊎ AnswersWhole text before after out written
+Did Answer text before after out written (Err TablesRead) = Keeps out written
+Did Answer text before after out written (Err InputRead) = AnswersWhole text before after out written
 Did Answer text before after out written (Err TooMuch) = AnswersTaken text before after out written
 Did Answer text before after out written (Err Write) = AnswersFront text before out written
 Did Answer text before after out written (Err Memory) = Keeps out written ⊎ AnswersFront text before out written
 Did Answer text before after out written (Err Usage) = ⊥
-Did Answer text before after out written (Err (Tables refusal)) = Keeps out written
+Did Answer text before after out written (Err (Refused line)) = Keeps out written
 
 -- the input that the command reads is known, and isn't too much
 abbrev pub FitsInput : Command → Option (List ℕ) → Type 0

@@ -1,5 +1,5 @@
--- The lines that the program itself prints.
-use Rattle.std.specs.Prelude.{ℕ, List, [], ◌∷◌, ◌++◌, length, codes, Option, unwrap_or, ◌⊎◌}
+-- The lines that the program itself prints, with their ends.
+use Rattle.std.specs.Prelude.{ℕ, List, [], ◌∷◌, ◌++◌, length, codes, Option, ◌⊎◌}
 use Rattle.std.specs.Fmt.{decimal}
 use Rattle.std.specs.Io.KnownBytes.{Appends}
 use Rattle.wire_ids.specs.Causes.{Rose}
@@ -7,18 +7,18 @@ use Rattle.disk_model.specs.Written.{AppendsFront}
 use Rattle.agreements.specs.Walk.{Config, fault_number, fault_path}
 use Rattle.agreements.specs.declared.fault.TablesFault.{TablesFault}
 
--- the line and its end were written, or a front of them where the sink failed
+-- the line was written, or a front of it where the sink failed
 abbrev pub Prints : ℕ → ℕ → Option (List ℕ) → Option (List ℕ) → List ℕ → Type 0
-Prints before now old new line = Appends old new (line ++ 10 ∷ []) ⊎ (AppendsFront old new (line ++ 10 ∷ []) × Rose before now)
+Prints before now old new line = Appends old new line ⊎ (AppendsFront old new line × Rose before now)
 
 -- this path, and `-` where there is none
 abbrev pub path_or_dash : List ℕ → List ℕ
 path_or_dash [] = codes "-"
 path_or_dash (b ∷ bs) = b ∷ bs
 
--- what is printed of tables that are refused; want of memory, which is no refusal, has no number
+-- what is printed of tables that are refused
 abbrev pub refused_line : TablesFault → List ℕ
-refused_line fault = (codes "lwdesk: tables " ++ (decimal (unwrap_or (fault_number fault) 0) ++ codes " ")) ++ path_or_dash (fault_path fault)
+refused_line fault = ((codes "lwdesk: tables " ++ (decimal (fault_number fault) ++ codes " ")) ++ path_or_dash (fault_path fault)) ++ 10 ∷ []
 
 -- what is printed of tables that are valid
 abbrev pub counts_line : Config → List ℕ
@@ -27,4 +27,4 @@ counts_line c =
     ++ (codes " networks " ++ (decimal (length c.networks)
     ++ (codes " applications " ++ (decimal (length c.applications)
     ++ (codes " gateways " ++ (decimal (length c.gateways)
-    ++ (codes " agreements " ++ decimal (length c.agreements)))))))))
+    ++ (codes " agreements " ++ (decimal (length c.agreements) ++ codes "\n")))))))))

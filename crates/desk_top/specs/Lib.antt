@@ -1,8 +1,10 @@
 pub mod Commands
+pub mod Ends
 pub mod Faults
 pub mod LastLines
+pub mod Opening
 pub mod Output
-pub mod Statuses
+pub mod Promises
 pub mod Text
 pub mod Turns
 pub mod Words

@@ -52,8 +52,8 @@ fn turn<E: BlockFn, D: BlockFn, T: Source, O: Sink>(
     ensures within { OnOk result (ahead.new.taken ≤ ahead.new.limit) }
     ensures over { IfErr result (λ e. e ≢ fault.TooMuch → ahead.new.taken ≤ ahead.new.limit) }
 
-    ensures read { IsErrOf result Fault.Read → Rose (T.faults input.old) (T.faults input.new) }
-    ensures read_in_line { IsErrOf result Fault.Read
+    ensures read { IsErrOf result Fault.InputRead → Rose (T.faults input.old) (T.faults input.new) }
+    ensures read_in_line { IsErrOf result Fault.InputRead
         → StopsInLine (coming ahead.old (T.left input.old)) (T.left input.new)
         × Keeps (O.written out.old) (O.written out.new) }
     ensures write { IsErrOf result Fault.Write → Rose (O.faults out.old) (O.faults out.new) }
@@ -67,7 +67,7 @@ fn turn<E: BlockFn, D: BlockFn, T: Source, O: Sink>(
     match next_line(alloc, ahead, input)? {
         Heard::Line(line) => {
             let text = answer(alloc, tables, vault, state, line.as_slice())?;
-            write_line(out, text.as_slice())?;
+            write_line(out, text.into_vec())?;
             Ok(true)
         }
         Heard::End => Ok(false),
@@ -91,7 +91,7 @@ pub(crate) fn answer_lines<E: BlockFn, D: BlockFn, T: Source, O: Sink>(
     ensures answered { Answered limit tables.now (T.left input.old) (T.left input.new)
         (O.written out.old) (O.written out.new) result }
 
-    ensures read { IsErrOf result Fault.Read → Rose (T.faults input.old) (T.faults input.new) }
+    ensures read { IsErrOf result Fault.InputRead → Rose (T.faults input.old) (T.faults input.new) }
     ensures write { IsErrOf result Fault.Write → Rose (O.faults out.old) (O.faults out.new) }
 
     // So many bytes were taken, and too many only where it is said.

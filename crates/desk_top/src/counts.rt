@@ -5,9 +5,8 @@ ghost use Rattle.desk_top.specs.Faults.{IsOfPrinting};
 ghost use Rattle.desk_top.specs.LastLines.{counts_line};
 
 use crate::fault::Fault;
-use crate::last_line::write_line;
 use agreements::Tables;
-use disk_model::Sink;
+use disk_model::{Sink, write_whole};
 use std::alloc::{AllocError, Global};
 
 fn counts_text(alloc: Global, tables: &Tables) -> Result<String, AllocError>
@@ -20,7 +19,7 @@ fn counts_text(alloc: Global, tables: &Tables) -> Result<String, AllocError>
     let agreements = tables.agreements().len();
     format!(in alloc;
         "tables ok: devices {devices} networks {networks} applications {applications} \
-        gateways {gateways} agreements {agreements}"
+        gateways {gateways} agreements {agreements}\n"
     )
 }
 
@@ -36,6 +35,6 @@ pub(crate) fn print_counts<O: Sink>(
     ensures later { O.faults out.old ≤ O.faults out.new }
 {
     let text = counts_text(alloc, tables)?;
-    write_line(out, text.as_bytes())?;
+    write_whole(out, text.as_bytes())?;
     Ok(())
 }

@@ -1,7 +1,6 @@
 ghost use Rattle.std.specs.Prelude.{◌≡◌};
 ghost use Rattle.desk_top.specs.declared.fault.Fault.TheVariants as fault;
 
-use agreements::TablesFault;
 use disk_model::Failed;
 use line_reader::LineFault;
 use std::alloc::AllocError;
@@ -12,10 +11,12 @@ use wire_ids::Memory;
 pub(crate) enum Fault {
     // The words are no command.
     Usage,
-    // The tables are refused.
-    Tables(TablesFault),
-    // A read failed.
-    Read,
+    // The tables are refused, as this last line says.
+    Refused(Vec<u8>),
+    // A read of the tables failed.
+    TablesRead,
+    // A read of the input failed.
+    InputRead,
     // A write failed.
     Write,
     // More input was taken than is allowed.
@@ -31,7 +32,7 @@ impl From<LineFault> for Fault {
 
     fn from(line: LineFault) -> Self {
         match line {
-            LineFault::Failed => Fault::Read,
+            LineFault::Failed => Fault::InputRead,
             LineFault::TooMuch => Fault::TooMuch,
             LineFault::Memory => Fault::Memory,
         }

@@ -8,8 +8,6 @@ mod fault;
 mod last_line;
 mod opening;
 mod program;
-#[cfg(test)]
-mod rows;
 mod sample;
 #[cfg(test)]
 mod tests;
@@ -18,4 +16,4 @@ mod words;
 
 pub use program::run;
 pub use sample::SAMPLE_TABLES;
-pub use words::{WordFiles, files_of};
+pub use words::{WordFiles, files_of, has_word};

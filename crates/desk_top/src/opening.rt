@@ -1,16 +1,15 @@
-ghost use Rattle.std.specs.Prelude.{◌≡◌, ◌≢◌, ◌<◌, ◌≤◌, ◌++◌, List, ℕ, length, Ok, Err, IfOk};
+ghost use Rattle.std.specs.Prelude.{◌≡◌, ◌<◌, ◌≤◌, ◌++◌, List, ℕ, length, Ok, IfOk};
 ghost use Rattle.std.specs.Prelude.{IfErr, IsErrOf};
 ghost use Rattle.std.specs.Io.KnownBytes.{Consumes, IsAtEnd};
 ghost use Rattle.wire_ids.specs.Causes.{Rose};
-ghost use Rattle.agreements.specs.declared.fault.TablesFault.{TablesFault as Refusal};
-ghost use Rattle.agreements.specs.declared.fault.TablesFault.TheVariants as refusals;
 ghost use Rattle.js_core.specs.Agreement.{StepsAgree};
-ghost use Rattle.desk_top.specs.Faults.{IsOfOpening, IsOfReading};
+ghost use Rattle.desk_top.specs.Faults.{IsOfReading};
+ghost use Rattle.desk_top.specs.Opening.{Tells, Unopened};
 ghost use Rattle.desk_top.specs.Text.{ReadsText, ReadsTables, text_room};
-ghost use Rattle.desk_top.specs.declared.fault.Fault.TheVariants as fault;
 
 use crate::fault::Fault;
-use agreements::{Tables, TablesFault, read_tables};
+use crate::last_line::refused_text;
+use agreements::{Tables, TablesFault, Unread, read_tables};
 use disk_model::Source;
 use js_core::steps_agree;
 use std::alloc::Global;
@@ -39,12 +38,13 @@ fn read_piece<S: Source>(
         × IfOk result (λ n. (text.new.items ≡ text.old.items ++ piece) × (n ≡ length piece)) }
     ensures end { IfOk result (λ n. n ≡ 0 → IsAtEnd (S.left source.new)) }
     ensures kind { IfErr result IsOfReading }
-    ensures read { IsErrOf result Fault.Read → Rose (S.faults source.old) (S.faults source.new) }
+    ensures read { IsErrOf result Fault.TablesRead
+        → Rose (S.faults source.old) (S.faults source.new) }
     ensures later { S.faults source.old ≤ S.faults source.new }
 {
     let here = most.min(PIECE);
     let Ok(count) = source.read(&mut room[..here]) else {
-        return Err(Fault::Read);
+        return Err(Fault::TablesRead);
     };
     text.extend_from_slice(&room[..count])?;
     Ok(count)
@@ -56,7 +56,8 @@ fn read_text<S: Source>(alloc: Global, most: usize, source: &mut S) -> Result<Ve
     ensures kind { IfErr result IsOfReading }
     ensures taken { (bytes : List ℕ) × Consumes (S.left source.old) (S.left source.new) bytes
         × (length bytes ≤ most) }
-    ensures read { IsErrOf result Fault.Read → Rose (S.faults source.old) (S.faults source.new) }
+    ensures read { IsErrOf result Fault.TablesRead
+        → Rose (S.faults source.old) (S.faults source.new) }
     ensures later { S.faults source.old ≤ S.faults source.new }
 {
     let mut text = Vec::new(alloc);
@@ -72,15 +73,12 @@ fn read_text<S: Source>(alloc: Global, most: usize, source: &mut S) -> Result<Ve
 }
 
 // Why there are no tables.
-fn refused(refusal: TablesFault) -> Fault
-    ensures kind { IsOfOpening result }
-    ensures unread { result ≢ fault.Read }
-    ensures told { (told : Refusal) → result ≡ fault.Tables told → (told ≡ refusal)
-        × (refusal ≢ refusals.Memory) }
+fn refused(alloc: Global, refusal: &TablesFault) -> Fault
+    ensures { Tells refusal.now result }
 {
-    match refusal {
-        TablesFault::Memory => Fault::Memory,
-        refusal => Fault::Tables(refusal),
+    match refused_text(alloc, refusal) {
+        Ok(line) => Fault::Refused(line),
+        Err(_) => Fault::Memory,
     }
 }
 
@@ -88,13 +86,10 @@ fn refused(refusal: TablesFault) -> Fault
 pub(crate) fn open_tables<S: Source>(alloc: Global, source: &mut S) -> Result<Tables, Fault>
     ensures tables { IfOk result (λ tables. ReadsTables (S.left source.old) (Ok tables)) }
     ensures agree { IfOk result StepsAgree }
-    ensures kind { IfErr result IsOfOpening }
-    ensures refused { (refusal : Refusal) → IsErrOf result (fault.Tables refusal)
-        → ReadsTables (S.left source.old) (Err refusal) × (refusal ≢ refusals.Memory) }
+    ensures unopened { IfErr result (Unopened (S.left source.old) (S.faults source.old)
+        (S.faults source.new)) }
     ensures taken { (bytes : List ℕ) × Consumes (S.left source.old) (S.left source.new) bytes
         × (length bytes ≤ text_room) }
-    ensures read { IsErrOf result Fault.Read → Rose (S.faults source.old) (S.faults source.new) }
-    ensures later { S.faults source.old ≤ S.faults source.new }
 {
     let text = read_text(alloc, TEXT_ROOM, source)?;
     match read_tables(alloc, &text) {
@@ -102,6 +97,7 @@ pub(crate) fn open_tables<S: Source>(alloc: Global, source: &mut S) -> Result<Ta
             steps_agree(&tables);
             Ok(tables)
         }
-        Err(refusal) => Err(refused(refusal)),
+        Err(Unread::Refused(refusal)) => Err(refused(alloc, &refusal)),
+        Err(Unread::Memory) => Err(Fault::Memory),
     }
 }

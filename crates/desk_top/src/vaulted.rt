@@ -36,7 +36,7 @@ fn with_closures<E: BlockFn, D: BlockFn, T: Source, O: Sink>(
     requires decrypts { Decrypts (D.gives decrypt) keys.items }
     ensures answered { Answered limit tables.now (T.left input.old) (T.left input.new)
         (O.written out.old) (O.written out.new) result }
-    ensures read { IsErrOf result Fault.Read → Rose (T.faults input.old) (T.faults input.new) }
+    ensures read { IsErrOf result Fault.InputRead → Rose (T.faults input.old) (T.faults input.new) }
     ensures write { IsErrOf result Fault.Write → Rose (O.faults out.old) (O.faults out.new) }
     ensures too_much { (bytes : List ℕ) × Consumes (T.left input.old) (T.left input.new) bytes
         × ((result ≡ Err fault.TooMuch) ↔ (limit < length bytes)) × (length bytes ≤ limit + 1) }
@@ -59,7 +59,7 @@ pub(crate) fn answer_vaulted<T: Source, O: Sink>(
     requires limit { limit < 2 ^ 63 }
     ensures answered { Answered limit tables.now (T.left input.old) (T.left input.new)
         (O.written out.old) (O.written out.new) result }
-    ensures read { IsErrOf result Fault.Read → Rose (T.faults input.old) (T.faults input.new) }
+    ensures read { IsErrOf result Fault.InputRead → Rose (T.faults input.old) (T.faults input.new) }
     ensures write { IsErrOf result Fault.Write → Rose (O.faults out.old) (O.faults out.new) }
     ensures too_much { (bytes : List ℕ) × Consumes (T.left input.old) (T.left input.new) bytes
         × ((result ≡ Err fault.TooMuch) ↔ (limit < length bytes)) × (length bytes ≤ limit + 1) }

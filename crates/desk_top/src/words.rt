@@ -21,7 +21,8 @@ pub struct WordFiles {
     pub workers: u32,
 }
 
-fn has_word(words: &[String], at: usize, word: &str) -> bool
+/// Whether the word at this place is this one.
+pub fn has_word(words: &[String], at: usize, word: &str) -> bool
     ensures { IsTrue result ↔ HasWord words.now at word.now }
 {
     match words.get(at) {

@@ -4,10 +4,9 @@ use Rattle.entries.specs.declared.ask.AskKind.{AskKind}
 use Rattle.entries.specs.declared.ask.AskKind.TheVariants as ask_kinds
 use Rattle.entries.specs.declared.ask.Effect.{Effect}
 use Rattle.entries.specs.declared.ask.Effect.TheVariants as effects
-use Rattle.wire_ids.specs.Forms.{IsForm, u8, u16, u24, u32, u64, sum, flag, optional, exactly, short, both, named, u24}
+use Rattle.wire_ids.specs.Forms.{IsForm}
 use Rattle.wire_ids.proofs.Forms.{by_test, taken_arm, taken_bare, arm_again, form-sum, form-both, form-named, form-u8, form-u16, form-u24, form-u32, form-u64, form-flag, form-optional, form-exactly, form-short}
 use Rattle.entries.specs.Asks.{ask_kind, ask_kind_tag, ask_kind_at, rejoin_count, target, new_ask, new_visitor, held_session, held_count, effect, effect_tag, effect_fields, effect_at, FitsEffect, ask_outcome}
-use Rattle.entries.specs.Names.{eui, dev_addr, moment, radio, session_keys, sender, peer}
 use Rattle.entries.proofs.Names.{form-eui, form-dev_addr, form-moment, form-radio, form-session_keys, form-sender, form-peer}
 
 ask_kind_again : (x : AskKind) (rest : List ℕ) → ask_kind_at (ask_kind_tag x) rest ≡ Some (x, rest)

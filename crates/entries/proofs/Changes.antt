@@ -6,10 +6,9 @@ use Rattle.entries.specs.declared.change.Downlink.{Downlink}
 use Rattle.entries.specs.declared.change.Downlink.TheVariants as downlinks
 use Rattle.entries.specs.declared.change.RoamingKind.{RoamingKind}
 use Rattle.entries.specs.declared.change.RoamingKind.TheVariants as roaming_kinds
-use Rattle.wire_ids.specs.Forms.{IsForm, u8, u16, u24, u32, below, mark, sum, flag, optional, short, both, named, u24}
+use Rattle.wire_ids.specs.Forms.{IsForm, below, mark}
 use Rattle.wire_ids.proofs.Forms.{by_test, taken_arm, taken_bare, arm_again, form-sum, form-both, form-named, form-u8, form-u16, form-u24, form-u32, form-flag, form-optional, form-below, form-mark, form-short}
 use Rattle.entries.specs.Changes.{used_seed, used_seed_tag, used_seed_fields, used_seed_at, FitsUsedSeed, own_context, joined, rejoined, downlink, downlink_tag, downlink_at, uplink, passive_uplink, queued, roaming_kind, roaming_kind_tag, roaming_kind_at, stopped}
-use Rattle.entries.specs.Names.{eui, dev_addr, moment, radio}
 use Rattle.entries.proofs.Names.{form-eui, form-dev_addr, form-moment, form-radio}
 
 mark_fits : (x : Unit {0}) → (mark 255).Fits x

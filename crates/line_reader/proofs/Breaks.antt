@@ -1,11 +1,9 @@
 -- Where a line ends.
-use Rattle.std.proofs.Common.{◌≡◌, ◌≢◌, ℕ, zero, suc, ◌+◌, ◌<◌, ◌≤◌, List, [], ◌∷◌, ◌++◌, length, take, drop, get_or, Bool, false, cond, Some, None, sym, ◌∙◌, ap, refl, subst, cond, arith, inl, inr}
-use Rattle.std.specs.Prelude.{◌==◌}
-use Rattle.std.proofs.lemmas.Bool.{eqb-true, cases_lt, lt-ltb}
-use Rattle.std.specs.List.{position, position_or_len}
+use Rattle.std.proofs.Common.{◌≡◌, ◌≢◌, ℕ, zero, suc, ◌+◌, ◌<◌, ◌≤◌, List, [], ◌∷◌, ◌++◌, length, take, drop, get_or, Bool, true, false, cond, Option, Some, None, sym, ◌∙◌, ap, refl, subst, arith}
+use Rattle.std.specs.Prelude.{◌==◌, IfNone, IfSome}
+use Rattle.std.proofs.lemmas.Bool.{eqb-true}
 use Rattle.std.proofs.lemmas.List.{drop_more, take_all}
-use Rattle.std.proofs.lemmas.List.Quantifiers.{position-Some}
-use Rattle.std.proofs.lemmas.List.Sums.{fails_before_first}
+use Rattle.memchr.specs.Find.{IsFirstByte, NoneBefore, Passes, is_byte}
 use Rattle.line_reader.specs.Lines.{HasNoBreak, lines_of, onto_first, whole_lines, onto_whole}
 use Rattle.line_reader.specs.Held.{IsLineEnd}
 
@@ -19,22 +17,23 @@ HasNoBreak-take xs zero h p = tt
 HasNoBreak-take [] (suc i) h p = tt
 HasNoBreak-take (x ∷ xs) (suc i) h p = (p 0 (omega arith), HasNoBreak-take xs i (omega arith) (λ k l. p (suc k) (omega arith)))
 
-abbrev ends : ℕ → Bool
-ends b = b == 10
+not_true : (t : Bool) → (t ≡ true → ⊥) → t ≡ false
+not_true true h = absurd (h refl)
+not_true false h = refl
 
-pub line_end_at : (xs : List ℕ) (i : ℕ) → position ends xs ≡ Some i → IsLineEnd xs i
-line_end_at xs i e =
-    let found = position-Some ends xs i 0 e in
+-- the first place of a byte that ends a line
+line_end_at : (xs : List ℕ) (i : ℕ) → NoneBefore (Passes (is_byte 10) xs) 0 (length xs) i × Passes (is_byte 10) xs i → IsLineEnd xs i
+line_end_at xs i found =
     let here : get_or xs i 0 ≡ 10 = eqb-true _ _ found.1 in
-    (found.0, HasNoBreak-take xs i (omega (arith, found.0)) found.2, drop_more xs i 0 found.0 ∙ ap (λ (b : ℕ). b ∷ drop (i + 1) xs) here)
+    (found.0.high, HasNoBreak-take xs i (omega (arith, found.0.high)) (λ k l. not_true _ (found.0.before k (omega arith) l)), drop_more xs i 0 found.0.high ∙ ap (λ (b : ℕ). b ∷ drop (i + 1) xs) here)
 
-some_is_not_none : {P : Type 0} {n : ℕ} → Some n ≡ None → P
-some_is_not_none e = cc
+pub line_end_found : (xs : List ℕ) (r : Option ℕ) → IsFirstByte (is_byte 10) xs r → IfSome r (IsLineEnd xs)
+line_end_found xs None found = tt
+line_end_found xs (Some i) found = line_end_at xs i found
 
-pub no_line_end : (xs : List ℕ) → position ends xs ≡ None → HasNoBreak xs
-no_line_end xs e =
-    let long : length xs ≤ position_or_len ends xs = elim (cases_lt (position_or_len ends xs) (length xs)) [ inl l ↦ some_is_not_none (ap (λ (t : Bool). cond t (Some (position_or_len ends xs)) None) (sym (lt-ltb _ _ l)) ∙ e) | inr l ↦ l ] in
-    subst HasNoBreak (take_all (length xs) xs (omega arith)) (HasNoBreak-take xs (length xs) (omega arith) (λ k l. fails_before_first ends xs k 0 (omega (arith, long))))
+pub no_line_end : (xs : List ℕ) (r : Option ℕ) → IsFirstByte (is_byte 10) xs r → IfNone r (HasNoBreak xs)
+no_line_end xs None nowhere = subst HasNoBreak (take_all (length xs) xs (omega arith)) (HasNoBreak-take xs (length xs) (omega arith) (λ k l. not_true _ (nowhere k (omega arith) l)))
+no_line_end xs (Some i) found = tt
 
 -- a line, its end and more
 pub lines_of-append : (line more : List ℕ) → HasNoBreak line → lines_of (line ++ 10 ∷ more) ≡ line ∷ lines_of more

@@ -1,15 +1,17 @@
 ghost use Rattle.std.specs.Prelude.{◌≡◌, ◌≢◌, ◌+◌, ◌-◌, ◌≤◌, [], ◌∷◌, ◌++◌, List, ℕ, length, take};
-ghost use Rattle.std.specs.Prelude.{position, ◌==◌, IfOk, IfErr, OnOk, OnErr, IsErrOf};
+ghost use Rattle.std.specs.Prelude.{IfOk, IfErr, IfSome, IfNone, OnOk, OnErr, IsErrOf};
 ghost use Rattle.std.specs.Io.KnownBytes.{Consumes, Keeps, IsAtEnd};
 ghost use Rattle.wire_ids.specs.Causes.{Rose};
 ghost use Rattle.line_reader.specs.Ahead.{budget, coming, TakesCount};
 ghost use Rattle.line_reader.specs.Hearing.{HearsLine, IsEnd, Spends, StopsBehind, StopsInLine};
 ghost use Rattle.line_reader.specs.Hearing.{UsesUp};
-ghost use Rattle.line_reader.specs.Held.{SaysRest};
+ghost use Rattle.line_reader.specs.Held.{IsLineEnd, SaysRest};
+ghost use Rattle.line_reader.specs.Lines.{HasNoBreak};
 ghost use Rattle.line_reader.specs.declared.fault.LineFault.TheVariants.{TooMuch};
 
 use crate::{Ahead, LineFault};
 use disk_model::Source;
+use memchr::memchr;
 use std::alloc::{AllocError, Global};
 use wire_ids::Text;
 
@@ -51,9 +53,10 @@ fn rest(text: Vec<u8>) -> Heard
 
 // The place of the byte that ends a line.
 fn line_end(piece: &[u8]) -> Option<usize>
-    ensures { result ≡ position (λ b. b == 10) piece.now }
+    ensures found { IfSome result (IsLineEnd piece.now) }
+    ensures none { IfNone result (HasNoBreak piece.now) }
 {
-    piece.iter().position(|b| *b == LINE_END)
+    memchr(LINE_END, piece)
 }
 
 // Makes sure that some bytes are there, if any are left.

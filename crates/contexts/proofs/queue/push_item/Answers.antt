@@ -1,4 +1,4 @@
-use Rattle.std.proofs.Common.{rules, ℕ, ◌+◌, ◌≤◌, ◌<◌, ◌^◌, ◌++◌, ◌∷◌, [], List, length, sym, subst, arith}
+use Rattle.std.proofs.Common.{rules, ℕ, ◌+◌, ◌≤◌, ◌<◌, ◌^◌, List, length, sym, subst}
 use Rattle.contexts.specs.declared.context.Item.{Item}
 use Rattle.contexts.specs.Sound.{IsSoundContext}
 use Rattle.contexts.proofs.Sound.{sound-pushed}

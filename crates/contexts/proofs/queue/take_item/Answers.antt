@@ -1,4 +1,4 @@
-use Rattle.std.proofs.Common.{rules, ℕ, ◌≤◌, List, sym, subst, arith}
+use Rattle.std.proofs.Common.{rules, List, sym, subst}
 use Rattle.contexts.specs.declared.context.Item.{Item}
 use Rattle.contexts.specs.Sound.{Rises}
 use Rattle.contexts.proofs.Sound.{Rises-remove}

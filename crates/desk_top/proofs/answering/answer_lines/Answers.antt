@@ -20,7 +20,7 @@ returns-in_err-turn-clause-answered g c =
     let under = c.lines.invariant.under_way in
     let taken = TakesCount_then _ _ _ _ _ _ c.lines.invariant.taken c.turn.ensures.taken in
     let limit : c.turn.new.ahead.limit ≡ c.args.limit = c.turn.ensures.limit ∙ c.lines.invariant.limit in
-    let quiet = λ (e : met ≡ fault.Read). c.in_err-turn.ensures.read_in_line (ap Err e) in
+    let quiet = λ (e : met ≡ fault.InputRead). c.in_err-turn.ensures.read_in_line (ap Err e) in
     let behind = λ (e : met ≡ fault.TooMuch). c.in_err-turn.ensures.stops_behind (ap Err e) in
     answered_err c.args.limit config (left c.args.input.now) (left c.turn.new.input) (written c.args.out.now) (written c.turn.new.out) _ met is c.in_err-turn.ensures.kind
     (front_under_way config (fresh config) c.lines.state (left c.args.input.now) old (written c.args.out.now) (written c.lines.out) _ under c.in_err-turn.ensures.front)

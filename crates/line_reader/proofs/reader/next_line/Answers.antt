@@ -6,7 +6,7 @@ use Rattle.line_reader.specs.Ahead.{budget}
 use Rattle.line_reader.specs.Lines.{HasNoBreak}
 use Rattle.line_reader.specs.Held.{IsLineEnd}
 use Rattle.line_reader.proofs.Parts.{take_held}
-use Rattle.line_reader.proofs.Breaks.{line_end_at, no_line_end, HasNoBreak-append}
+use Rattle.line_reader.proofs.Breaks.{HasNoBreak-append}
 use Rattle.line_reader.proofs.Hearings.{TakesCount_then, Consumes_kept, Consumes_all, hears_line, is_none, same_err, spends_rest, stops_behind, uses_line, uses_rest}
 use Rattle.line_reader.proofs.reader.next_line.Goals as goal
 
@@ -53,7 +53,7 @@ returns-in-Some-clause-used g c =
     let part = c.pieces.invariant.part in
     let there = c.stock.new.ahead.pending in
     let at = c.in-Some.count in
-    let ends : IsLineEnd there at = rw (← c.piece-piece.ensures) (line_end_at c.piece-piece.result.now at (sym c.line_end.ensures ∙ c.in-Some.is)) in
+    let ends : IsLineEnd there at = rw (← c.piece-piece.ensures) c.in-Some.ensures.found in
     let now = Consumes_kept _ _ _ part.0 part.1 c.in_ok-stock.ensures.coming in
     let held : c.hold.new.text.items ≡ take 8193 (part.0 ++ take at there) = rw (← c.piece-piece.ensures) (take_held 8193 _ part.0 _ _ part.3 c.in_ok-hold-in-Some.ensures) in
     rw c.pass.ensures.pending (uses_line _ _ there part.0 _ at now part.2 ends (c.new.ensures ∙ held))
@@ -68,7 +68,7 @@ pieces-preserved g c =
     let now = Consumes_kept _ _ _ part.0 part.1 c.in_ok-stock.ensures.coming in
     let piece = c.piece-piece.result.now in
     let kept = Consumes_all _ _ part.0 there piece c.pass-in-None.new.self.pending c.piece-piece.ensures c.pass-in-None.ensures.pending now in
-    let clear : HasNoBreak piece = no_line_end piece (sym c.line_end.ensures ∙ c.in-None.is) in
+    let clear : HasNoBreak piece = c.in-None.ensures.none in
     let none : length c.pass-in-None.new.self.pending ≡ 0 = ap length c.pass-in-None.ensures.pending ∙ simp length-drop (omega (arith, ap length c.piece-piece.ensures)) in
     let spent : budget c.pass-in-None.new.self + length (part.0 ++ piece) ≤ budget c.args.ahead.now = omega (arith, part.4, none, c.pass-in-None.ensures.taken, c.pass-in-None.ensures.limit, c.in_ok-stock.ensures.budget, length-append part.0 piece, ap length c.piece-piece.ensures) in
     record {

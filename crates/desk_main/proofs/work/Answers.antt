@@ -1,0 +1,5 @@
+use Rattle.desk_top.proofs.StatusLemmas.{usage_told}
+use Rattle.desk_main.proofs.work.Goals as goal
+
+pub returns-clause-usage : goal.returns-clause-usage
+returns-clause-usage g c = λ other. ?

@@ -1,0 +1,32 @@
+-- What is printed of cases.
+use Rattle.std.specs.Prelude.{◌≡◌, ℕ, List, [], ◌∷◌, ◌++◌, codes, string_bytes, Bool, true, false, Option}
+use Rattle.std.specs.Io.KnownBytes.{Appends}
+use Rattle.desk_rows.specs.declared.case.Case.{Case}
+use Rattle.desk_rows.specs.declared.case.Outcome.{Outcome}
+
+-- the run ended as it is wanted
+abbrev pub Passes : Outcome → Outcome → Type 0
+Passes got wanted = (got.status ≡ wanted.status) × (got.output.items ≡ wanted.output.items)
+
+-- the line of a case that passed
+abbrev pub ok_line : List ℕ → List ℕ
+ok_line name = name ++ codes ": ok\n"
+
+-- how the lines of a case begin that didn't
+abbrev pub differs_line : List ℕ → List ℕ
+differs_line name = name ++ codes ": differs\n"
+
+-- these lines are those of a case that passed, or of one that didn't
+abbrev pub Says : Bool → List ℕ → List ℕ → Type 0
+Says true name lines = lines ≡ ok_line name
+Says false name lines = (more : List ℕ) × (lines ≡ differs_line name ++ more)
+
+-- a line for each of these cases, all of which passed
+abbrev pub ok_lines : List Case → List ℕ
+ok_lines [] = []
+ok_lines (case ∷ cases) = ok_line (string_bytes case.name) ++ ok_lines cases
+
+-- where all passed, a line for each was printed and nothing else
+abbrev pub PrintsAll : Bool → List Case → Option (List ℕ) → Option (List ℕ) → Type 0
+PrintsAll true cases old new = Appends old new (ok_lines cases)
+PrintsAll false cases old new = Unit {0}

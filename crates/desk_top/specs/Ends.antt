@@ -1,0 +1,43 @@
+-- How a run may end: its status, and the line that it prints last.
+use Rattle.std.specs.Prelude.{◌≡◌, ◌≤◌, ℕ, List, codes, Option, Some, None, Result, Ok, Err}
+use Rattle.std.specs.Io.KnownBytes.{Keeps}
+use Rattle.desk_top.specs.LastLines.{Prints}
+use Rattle.desk_top.specs.Promises.{End, Promises, Run, Seen}
+use Rattle.desk_top.specs.declared.fault.Fault.TheVariants.{Usage, Refused, TablesRead, InputRead, Write, TooMuch, Memory}
+
+-- the status of each end
+abbrev pub status_of : End → ℕ
+status_of (Ok u) = 0
+status_of (Err Usage) = 2
+status_of (Err (Refused line)) = 3
+status_of (Err TablesRead) = 4
+status_of (Err InputRead) = 4
+status_of (Err Write) = 5
+status_of (Err Memory) = 10
+status_of (Err TooMuch) = 11
+
+-- the last line of each end that has one
+abbrev pub last_line : End → Option (List ℕ)
+last_line (Ok u) = None
+last_line (Err Usage) = Some (codes "lwdesk: usage\n")
+last_line (Err (Refused line)) = Some line.items
+last_line (Err TablesRead) = Some (codes "lwdesk: read\n")
+last_line (Err InputRead) = Some (codes "lwdesk: read\n")
+last_line (Err Write) = None
+last_line (Err Memory) = None
+last_line (Err TooMuch) = Some (codes "lwdesk: too much input\n")
+
+-- the last line was printed, where there is one, and nothing else
+abbrev pub Closes : {O : Type 0} → Seen O → Seen O → Option (List ℕ) → Type 0
+Closes before now None = Keeps before.bytes now.bytes
+Closes before now (Some line) = Prints before.faults now.faults before.bytes now.bytes line
+
+-- The run kept its promises to some end, whose last line was printed behind all else, and it has the status of that end.
+pub record Ends {S T O : Type 0} (run : Run S T O) (told : ℕ) : Type 0 where
+  pub end : End
+  -- what is seen of the output before the last line
+  pub out : Seen O
+  pub promises : Promises (record run { out_after = out }) end
+  pub status : told ≡ status_of end
+  pub last_line : Closes out run.out_after (last_line end)
+  pub later : out.faults ≤ run.out_after.faults

@@ -8,7 +8,7 @@ use Rattle.wire_ids.specs.declared.keys.RootKeys.{RootKeys}
 use Rattle.wire_ids.specs.declared.keys.Seed.{Seed}
 use Rattle.key_vault.specs.Table.{app_at, nwk_at}
 use Rattle.agreements.specs.Walk.{Config}
-use Rattle.agreements.specs.LookUps.{device_place, place_of}
+use Rattle.agreements.specs.LookUps.{device_place}
 use Rattle.agreements.specs.declared.rows.DeviceRow.{DeviceRow}
 use Rattle.js_core.specs.declared.decision.AcceptedJoin.{AcceptedJoin}
 use Rattle.js_core.specs.declared.decision.Decision.{Decision}
@@ -141,7 +141,7 @@ fit_cases c keys m = record {
   join = λ head request frame at row kept is. record {
     row = row;
     is_row = is.is_row;
-    is_place = ap (λ (n : ℕ). place_of n c.devices) (eqb-true row.dev_eui.0 request.dev_eui.0 (found_row request.dev_eui c.devices at row is.is_place is.is_row)) ∙ is.is_place;
+    is_place = ap (λ (n : ℕ). device_place (record { 0 = n }) c.devices) (eqb-true row.dev_eui.0 request.dev_eui.0 (found_row request.dev_eui c.devices at row is.is_place is.is_row)) ∙ is.is_place;
     kept = kept;
     is_kept = is.is_kept;
     nonce = omega arith;

@@ -8,6 +8,7 @@ use Rattle.agreements.specs.Walk.{Config}
 use Rattle.agreements.specs.declared.fault.TablesFault.{TablesFault}
 use Rattle.js_core.specs.Agreement.{StepsAgree}
 use Rattle.desk_top.specs.Commands.{Answered, Counted, Did, FitsInput}
+use Rattle.desk_top.specs.Output.{key_table}
 use Rattle.desk_top.specs.Opening.{Unopened}
 use Rattle.desk_top.specs.Promises.{End, IsDone, MayRefuse}
 use Rattle.desk_top.specs.Text.{HasTables, ReadsTables}
@@ -31,7 +32,7 @@ did_check c text a b out w (Err Write) reads p = (c, reads, p)
 did_check c text a b out w (Err TooMuch) reads p = absurd p
 did_check c text a b out w (Err Memory) reads p = p
 
-did_answer : (c : Config) (text a b out w : Option (List ℕ)) (end : End) → ReadsTables text (Ok c) → StepsAgree c → Answered (2 ^ 30) c a b out w end → Did Answer text a b out w end
+did_answer : (c : Config) (text a b out w : Option (List ℕ)) (end : End) → ReadsTables text (Ok c) → StepsAgree c → Answered (2 ^ 30) c (key_table c) a b out w end → Did Answer text a b out w end
 did_answer c text a b out w (Ok u) reads agree p = ((c, reads, agree, p.0), p.1)
 did_answer c text a b out w (Err Usage) reads agree p = absurd p
 did_answer c text a b out w (Err (Refused line)) reads agree p = absurd p
@@ -59,7 +60,7 @@ pub checked_for : (words : List (String Global)) (command : Command) (c : Config
 checked_for words Check c text a b out w end is spells reads p = did_check c text a b out w end reads p
 checked_for words Answer c text a b out w end is spells reads p = absurd (omega (arith, is.0, spells.0))
 
-pub answered_for : (words : List (String Global)) (command : Command) (c : Config) (text a b out w : Option (List ℕ)) (end : End) → Spells words Answer → Spells words command → ReadsTables text (Ok c) → StepsAgree c → Answered (2 ^ 30) c a b out w end → Did command text a b out w end
+pub answered_for : (words : List (String Global)) (command : Command) (c : Config) (text a b out w : Option (List ℕ)) (end : End) → Spells words Answer → Spells words command → ReadsTables text (Ok c) → StepsAgree c → Answered (2 ^ 30) c (key_table c) a b out w end → Did command text a b out w end
 answered_for words Check c text a b out w end is spells reads agree p = absurd (omega (arith, is.0, spells.0))
 answered_for words Answer c text a b out w end is spells reads agree p = did_answer c text a b out w end reads agree p
 

@@ -8,6 +8,7 @@ use Rattle.line_reader.proofs.Hearings.{Consumes_none}
 use Rattle.agreements.specs.Walk.{Config}
 use Rattle.js_core.specs.Agreement.{StepsAgree}
 use Rattle.desk_top.specs.Commands.{Answered, Counted, Did, FitsInput}
+use Rattle.desk_top.specs.Output.{key_table}
 use Rattle.desk_top.specs.Opening.{Unopened}
 use Rattle.desk_top.specs.Promises.{Cause, End, IsDone, Promises, Run, Seen, Untouched}
 use Rattle.desk_top.specs.Text.{HasTables, ReadsTables, text_room}
@@ -115,7 +116,7 @@ no_check words spells is = omega (arith, spells.0, is.0)
 
 -- the tables were opened and the lines answered
 pub answered : {S T O : Type 0} (words : List (String Global)) (c : Config) (t t' : Seen S) (i i' : Seen T) (o o' : Seen O) (end : End) → Spells words Answer
-    → ReadsTables t.bytes (Ok c) → StepsAgree c → ReadsWithin t.bytes t'.bytes → Answered (2 ^ 30) c i.bytes i'.bytes o.bytes o'.bytes end
+    → ReadsTables t.bytes (Ok c) → StepsAgree c → ReadsWithin t.bytes t'.bytes → Answered (2 ^ 30) c (key_table c) i.bytes i'.bytes o.bytes o'.bytes end
     → (end ≡ Err InputRead → Rose i.faults i'.faults) → (end ≡ Err Write → Rose o.faults o'.faults) → TakesWithin i.bytes i'.bytes end
     → Promises (record { words = words; tables = t; tables_after = t'; input = i; input_after = i'; out = o; out_after = o' }) end
 answered words c t t' i i' o o' (Ok u) spells has agree reads p read write takes =

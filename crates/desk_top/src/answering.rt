@@ -1,11 +1,10 @@
-ghost use Rattle.std.specs.Prelude.{◌≡◌, ◌≢◌, ◌↔◌, ◌+◌, ◌^◌, ◌<◌, ◌≤◌, [], List, ℕ, length, map};
+ghost use Rattle.std.specs.Prelude.{◌≡◌, ◌≢◌, ◌↔◌, ◌+◌, ◌^◌, ◌<◌, ◌≤◌, [], List, ℕ, length};
 ghost use Rattle.std.specs.Prelude.{Err, IfOk, IfErr, OnOk, OnErr, IsErrOf};
 ghost use Rattle.std.specs.Bool.{OnFalse};
 ghost use Rattle.std.specs.Io.KnownBytes.{Consumes, IsAtEnd, Keeps};
 ghost use Rattle.wire_ids.specs.Causes.{Rose};
 ghost use Rattle.line_reader.specs.Ahead.{TakesCount, budget, coming};
 ghost use Rattle.line_reader.specs.Hearing.{StopsBehind, StopsInLine};
-ghost use Rattle.agreements.specs.LookUps.{keys_of};
 ghost use Rattle.js_core.specs.Machine.{IsOf};
 ghost use Rattle.desk_top.specs.Commands.{Answered};
 ghost use Rattle.desk_top.specs.Turns.{Spends, Turns, WritesFront};
@@ -32,18 +31,18 @@ fn turn<E: BlockFn, D: BlockFn, T: Source, O: Sink>(
     out: &mut O,
 ) -> Result<bool, Fault>
     requires allowed { ahead.old.taken ≤ ahead.old.limit }
-    requires keys { vault.now ≡ map keys_of tables.now.devices }
+    requires keys { length vault.now ≡ length tables.now.devices }
     requires of { IsOf tables.now state.old }
 
     ensures of { IsOf tables.now state.new }
     ensures limit { ahead.new.limit ≡ ahead.old.limit }
     ensures turns { IfOk result
-        (λ goes. Turns tables.now (coming ahead.old (T.left input.old)) state.old
+        (λ goes. Turns tables.now vault.now (coming ahead.old (T.left input.old)) state.old
         (O.written out.old) goes
         (coming ahead.new (T.left input.new)) state.new (O.written out.new)) }
     ensures end { IfOk result (λ goes. OnFalse goes (IsAtEnd (T.left input.new))) }
     ensures front { OnErr result
-        (WritesFront tables.now state.old (coming ahead.old (T.left input.old))
+        (WritesFront tables.now vault.now state.old (coming ahead.old (T.left input.old))
         (O.written out.old) (O.written out.new)) }
     ensures kind { IfErr result IsOfLines }
     ensures spends { IfOk result (λ goes. Spends goes (budget ahead.old) (budget ahead.new)) }
@@ -85,10 +84,10 @@ pub(crate) fn answer_lines<E: BlockFn, D: BlockFn, T: Source, O: Sink>(
     out: &mut O,
 ) -> Result<(), Fault>
     requires limit { limit < 2 ^ 63 }
-    requires keys { vault.now ≡ map keys_of tables.now.devices }
+    requires keys { length vault.now ≡ length tables.now.devices }
 
     // What was written, by how it ended.
-    ensures answered { Answered limit tables.now (T.left input.old) (T.left input.new)
+    ensures answered { Answered limit tables.now vault.now (T.left input.old) (T.left input.new)
         (O.written out.old) (O.written out.new) result }
 
     ensures read { IsErrOf result Fault.InputRead → Rose (T.faults input.old) (T.faults input.new) }

@@ -1,11 +1,11 @@
-ghost use Rattle.std.specs.Prelude.{◌≡◌, ◌↔◌, ◌+◌, ◌^◌, ◌<◌, ◌≤◌, List, ℕ, length, map, vec_len};
+ghost use Rattle.std.specs.Prelude.{◌≡◌, ◌↔◌, ◌+◌, ◌^◌, ◌<◌, ◌≤◌, List, ℕ, length, vec_len};
 ghost use Rattle.std.specs.Prelude.{Err, IsErrOf};
 ghost use Rattle.std.specs.Io.KnownBytes.{Consumes};
 ghost use Rattle.wire_ids.specs.Causes.{Rose};
 ghost use Rattle.aes_cmac.specs.Aes.{encrypted, decrypted};
 ghost use Rattle.key_vault.specs.Table.{Serves, Encrypts, Decrypts, root_key};
-ghost use Rattle.agreements.specs.LookUps.{keys_of};
 ghost use Rattle.desk_top.specs.Commands.{Answered};
+ghost use Rattle.desk_top.specs.Output.{key_table};
 ghost use Rattle.desk_top.specs.declared.fault.Fault.TheVariants as fault;
 
 use crate::answering::answer_lines;
@@ -28,13 +28,13 @@ fn with_closures<E: BlockFn, D: BlockFn, T: Source, O: Sink>(
     out: &mut O,
 ) -> Result<(), Fault>
     requires limit { limit < 2 ^ 63 }
-    requires rows { keys.items ≡ map keys_of tables.now.devices }
+    requires rows { keys.items ≡ key_table tables.now }
     requires few { vec_len keys ≤ 4096 }
     requires may_encrypt { Serves (E.may encrypt) (vec_len keys) }
     requires encrypts { Encrypts (E.gives encrypt) keys.items }
     requires may_decrypt { Serves (D.may decrypt) (vec_len keys) }
     requires decrypts { Decrypts (D.gives decrypt) keys.items }
-    ensures answered { Answered limit tables.now (T.left input.old) (T.left input.new)
+    ensures answered { Answered limit tables.now (key_table tables.now) (T.left input.old) (T.left input.new)
         (O.written out.old) (O.written out.new) result }
     ensures read { IsErrOf result Fault.InputRead → Rose (T.faults input.old) (T.faults input.new) }
     ensures write { IsErrOf result Fault.Write → Rose (O.faults out.old) (O.faults out.new) }
@@ -57,7 +57,7 @@ pub(crate) fn answer_vaulted<T: Source, O: Sink>(
     out: &mut O,
 ) -> Result<(), Fault>
     requires limit { limit < 2 ^ 63 }
-    ensures answered { Answered limit tables.now (T.left input.old) (T.left input.new)
+    ensures answered { Answered limit tables.now (key_table tables.now) (T.left input.old) (T.left input.new)
         (O.written out.old) (O.written out.new) result }
     ensures read { IsErrOf result Fault.InputRead → Rose (T.faults input.old) (T.faults input.new) }
     ensures write { IsErrOf result Fault.Write → Rose (O.faults out.old) (O.faults out.new) }

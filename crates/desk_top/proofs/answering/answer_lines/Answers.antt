@@ -13,6 +13,7 @@ returns-in_err-turn-clause-answered g c =
     let left = g.T.Source.left in
     let written = g.O.Sink.written in
     let config = c.args.tables.now in
+    let keys = c.args.vault.now in
     let told = err_from_is_err_and c.from_residual-in_err-turn.result c.from_residual-in_err-turn.ensures.1 in
     let met = c.in_err-turn.field-0.0 in
     let is : c.from_residual-in_err-turn.result ≡ Err met = told.1 ∙ ap Err told.2 in
@@ -22,10 +23,10 @@ returns-in_err-turn-clause-answered g c =
     let limit : c.turn.new.ahead.limit ≡ c.args.limit = c.turn.ensures.limit ∙ c.lines.invariant.limit in
     let quiet = λ (e : met ≡ fault.InputRead). c.in_err-turn.ensures.read_in_line (ap Err e) in
     let behind = λ (e : met ≡ fault.TooMuch). c.in_err-turn.ensures.stops_behind (ap Err e) in
-    answered_err c.args.limit config (left c.args.input.now) (left c.turn.new.input) (written c.args.out.now) (written c.turn.new.out) _ met is c.in_err-turn.ensures.kind
-    (front_under_way config (fresh config) c.lines.state (left c.args.input.now) old (written c.args.out.now) (written c.lines.out) _ under c.in_err-turn.ensures.front)
-    (λ e. read_under_way c.args.limit c.turn.new.ahead.taken config (fresh config) c.lines.state (left c.args.input.now) old (left c.turn.new.input) (written c.args.out.now) (written c.lines.out) _ under (quiet e).0 (quiet e).1 taken (omega (arith, limit, c.in_err-turn.ensures.over (λ h. cc))))
-    (λ e. much_under_way c.args.limit c.turn.new.ahead.taken config (fresh config) c.lines.state (left c.args.input.now) old (left c.turn.new.input) (written c.args.out.now) (written c.lines.out) _ under (behind e).0 (behind e).1 taken (omega (arith, limit, c.in_err-turn.ensures.too_much (ap Err e))))
+    answered_err c.args.limit config keys (left c.args.input.now) (left c.turn.new.input) (written c.args.out.now) (written c.turn.new.out) _ met is c.in_err-turn.ensures.kind
+    (front_under_way config keys (fresh config) c.lines.state (left c.args.input.now) old (written c.args.out.now) (written c.lines.out) _ under c.in_err-turn.ensures.front)
+    (λ e. read_under_way c.args.limit c.turn.new.ahead.taken config keys (fresh config) c.lines.state (left c.args.input.now) old (left c.turn.new.input) (written c.args.out.now) (written c.lines.out) _ under (quiet e).0 (quiet e).1 taken (omega (arith, limit, c.in_err-turn.ensures.over (λ h. cc))))
+    (λ e. much_under_way c.args.limit c.turn.new.ahead.taken config keys (fresh config) c.lines.state (left c.args.input.now) old (left c.turn.new.input) (written c.args.out.now) (written c.lines.out) _ under (behind e).0 (behind e).1 taken (omega (arith, limit, c.in_err-turn.ensures.too_much (ap Err e))))
 
 pub returns-in_err-turn-clause-too_much : goal.returns-in_err-turn-clause-too_much
 returns-in_err-turn-clause-too_much g c =
@@ -45,8 +46,9 @@ lines-preserved g c =
     let left = g.T.Source.left in
     let written = g.O.Sink.written in
     let config = c.args.tables.now in
+    let keys = c.args.vault.now in
     record {
-      under_way = under_way_then config (fresh config) c.lines.state c.turn.new.state (left c.args.input.now) (coming c.lines.ahead (left c.lines.input)) (coming c.turn.new.ahead (left c.turn.new.input)) (written c.args.out.now) (written c.lines.out) (written c.turn.new.out) c.lines.invariant.under_way (rw c.if-branch.true at c.in_ok-turn.ensures.turns);
+      under_way = under_way_then config keys (fresh config) c.lines.state c.turn.new.state (left c.args.input.now) (coming c.lines.ahead (left c.lines.input)) (coming c.turn.new.ahead (left c.turn.new.input)) (written c.args.out.now) (written c.lines.out) (written c.turn.new.out) c.lines.invariant.under_way (rw c.if-branch.true at c.in_ok-turn.ensures.turns);
       of = c.turn.ensures.of;
       taken = TakesCount_then _ _ _ _ _ _ c.lines.invariant.taken c.turn.ensures.taken;
       limit = c.turn.ensures.limit ∙ c.lines.invariant.limit;
@@ -65,8 +67,9 @@ pub lines-init : goal.lines-init
 lines-init g c =
     let left = g.T.Source.left c.args.input.now in
     let config = c.args.tables.now in
+    let keys = c.args.vault.now in
     record {
-      under_way = rw c.in_ok-state.ensures.fresh (under_way_first config (fresh config) left (g.O.Sink.written c.args.out.now) c.in_ok-ahead.ahead.pending c.in_ok-ahead.ensures.pending);
+      under_way = rw c.in_ok-state.ensures.fresh (under_way_first config keys (fresh config) left (g.O.Sink.written c.args.out.now) c.in_ok-ahead.ahead.pending c.in_ok-ahead.ensures.pending);
       of = c.in_ok-state.ensures.of;
       taken = rw c.in_ok-ahead.ensures.taken (TakesCount_none left 0);
       limit = c.in_ok-ahead.ensures.limit;

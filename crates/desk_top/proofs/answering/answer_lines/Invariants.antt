@@ -10,7 +10,7 @@ invariant-lines g l =
     let left = g.T.Source.left in
     let written = g.O.Sink.written in
     record {
-      under_way : IsUnderWay l.tables (fresh l.tables) (left l.fn.input) (written l.fn.out) (coming l.ahead (left l.input)) l.state (written l.out);
+      under_way : IsUnderWay l.tables l.vault (fresh l.tables) (left l.fn.input) (written l.fn.out) (coming l.ahead (left l.input)) l.state (written l.out);
       of : IsOf l.tables l.state;
       taken : TakesCount (left l.fn.input) (left l.input) 0 l.ahead.taken;
       limit : l.ahead.limit ≡ l.limit;

@@ -5,6 +5,7 @@ use Rattle.desk_top.proofs.opening.open_tables.Goals as goal
 pub returns-in-Ok-clause-tables : goal.returns-in-Ok-clause-tables
 returns-in-Ok-clause-tables g c = tables_read _ _ _ c.in_ok-text.ensures.text (rw c.deref.ensures.value at c.in-Ok.ensures)
 
-pub returns-clause-unopened : goal.returns-clause-unopened
-returns-clause-unopened g c =
-    refusal_told _ _ _ _ c.in-Err.refusal c.refused.result c.in_ok-text.ensures.text (rw c.deref.ensures.value at c.in-Err.ensures) c.refused.ensures
+pub returns-in-Err-Refused-clause-unopened : goal.returns-in-Err-Refused-clause-unopened
+returns-in-Err-Refused-clause-unopened g c =
+    let said = rw (c.in-Err-Refused.field-0-is, c.deref.ensures.value) at c.in-Err-Refused.ensures in
+    refusal_told _ _ _ _ c.in-Err-Refused.refusal c.refused.result c.in_ok-text.ensures.text said c.refused.ensures

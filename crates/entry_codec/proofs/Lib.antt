@@ -1,0 +1,13 @@
+pub mod Bools
+pub mod Ordered
+pub mod Places
+pub mod Names
+pub mod Sums
+pub mod Keeping
+pub mod SoundDevices
+pub mod Stays
+pub mod Sound
+pub mod Room
+pub mod SoundEmpty
+pub mod Lasting
+pub mod Ready

@@ -1,0 +1,11 @@
+pub mod Ordered
+pub mod Devices
+pub mod Machine
+pub mod LookUps
+pub mod Fits
+pub mod Kept
+pub mod Index
+pub mod State
+pub mod Sound
+pub mod Ends
+pub mod Empty

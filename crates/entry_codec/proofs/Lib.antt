@@ -11,3 +11,5 @@ pub mod Room
 pub mod SoundEmpty
 pub mod Lasting
 pub mod Ready
+pub mod Marks
+pub mod Issuing

@@ -248,7 +248,7 @@ ready-counted ss low (Rejoin0 place) counter d h = ready-with_count ss low place
 ready-counted ss low Rejoin1 counter d h = record { seeds = h.seeds; nonces = h.nonces; slots = h.slots; home = h.home; granted = h.granted; known = h.known; below = h.below }
 ready-counted ss low (Rejoin2 place) counter d h = ready-with_count ss low place counter d h
 
-nonce-counted : (used : UsedSeed) (counter : ℕ) (d : Device) → (kept_count used counter d).join_nonce ≡ d.join_nonce
+pub nonce-counted : (used : UsedSeed) (counter : ℕ) (d : Device) → (kept_count used counter d).join_nonce ≡ d.join_nonce
 nonce-counted (Rejoin0 place) counter d = refl
 nonce-counted Rejoin1 counter d = refl
 nonce-counted (Rejoin2 place) counter d = refl

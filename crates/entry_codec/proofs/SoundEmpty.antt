@@ -112,7 +112,7 @@ sound-empty c few few_nets = record {
   addresses = λ addr. omega (arith, unused addr c.desk.net_id c.devices);
 }
 
-names-new : (own : ℕ) (rows : List DeviceRow) → names (map (new_device own) rows) ≡ map row_number rows
+pub names-new : (own : ℕ) (rows : List DeviceRow) → names (map (new_device own) rows) ≡ map row_number rows
 names-new own [] = refl
 names-new own (r ∷ rows) = ap (λ (ns : List ℕ). r.dev_eui.0 ∷ ns) (names-new own rows)
 

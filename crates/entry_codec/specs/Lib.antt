@@ -9,3 +9,5 @@ pub mod State
 pub mod Sound
 pub mod Ends
 pub mod Empty
+pub mod Replay
+pub mod Issues

@@ -9,6 +9,7 @@ mod fits;
 mod held;
 mod index;
 mod kept;
+pub mod laws;
 mod made;
 mod now;
 mod parties;

@@ -1,0 +1,15 @@
+//! Laws of the state that entries make.
+
+ghost use Rattle.entry_codec.specs.Issues.{JoinNoncesOnce};
+ghost use Rattle.entry_codec.specs.Replay.{SoundReplays};
+
+/// What holds of every state holds of the first one of tables, and of each one that entries which
+/// fit lead to.
+pub fn sound_replays()
+    ensures { SoundReplays }
+{}
+
+/// No JoinNonce is given to a device twice, over every list of entries that fit.
+pub fn join_nonces_once()
+    ensures { JoinNoncesOnce }
+{}

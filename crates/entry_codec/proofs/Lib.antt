@@ -13,3 +13,4 @@ pub mod Lasting
 pub mod Ready
 pub mod Marks
 pub mod Issuing
+pub mod Window

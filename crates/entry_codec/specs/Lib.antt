@@ -11,3 +11,4 @@ pub mod Ends
 pub mod Empty
 pub mod Replay
 pub mod Issues
+pub mod Free

@@ -6,6 +6,7 @@ mod device;
 mod devices;
 mod ends;
 mod fits;
+mod free;
 mod held;
 mod index;
 mod kept;

@@ -2,6 +2,7 @@
 #![tactic(auto)]
 
 mod adapters;
+mod file_disk;
 #[cfg(test)]
 mod tests;
 

@@ -2,6 +2,7 @@
 #![tactic(auto)]
 
 mod adapters;
+mod file_disk;
 mod help;
 #[cfg(test)]
 mod tests;

@@ -1,5 +1,6 @@
-use crate::{AnswerKind, Facts, Role, keys_for, role_of};
-use agreements::read_tables;
+use crate::{AnswerKind, Facts, KeySet, Role, keys_for, role_of};
+use agreements::{Tables, read_tables};
+use std::process::Abort;
 use std::test::Fail;
 use wire_ids::{Eui, Moment, NetId, Sender};
 
@@ -32,179 +33,113 @@ home = \"000014\"
 app = \"a000000000000001\"
 ";
 
-const APPLICATION: u64 = 0xa000000000000001;
-
-// A network of 24 bits, or else another party.
-fn receiver(id: u64) -> Sender {
-    if id < 1 << 24
-        && let Some(net) = NetId::new(id as u32)
-    {
-        Sender::Network(net)
-    } else {
-        Sender::Party(Eui(id))
+fn letters(keys: KeySet) -> &'static str {
+    match (keys.f, keys.s, keys.e, keys.app) {
+        (true, true, true, true) => "FSEA",
+        (true, true, true, false) => "FSE",
+        (true, false, false, false) => "F",
+        (false, false, false, true) => "A",
+        (false, false, false, false) => "",
+        _ => "?",
     }
 }
 
-// The moment, the receiver, the answer, `carry_app` and the Lifetime; the receiver's role, and
-// whether it gets F, S, E and App. To 000015 the device is lent, and granted, until 1001.
-const ANSWERS: &[(u64, u64, AnswerKind, bool, u32, Role, [bool; 4])] = &[
-    (
-        1000,
-        0x14,
-        AnswerKind::JoinAns,
-        false,
-        0,
-        Role::Home,
-        [true, true, true, false],
-    ),
-    (
-        1000,
-        0x14,
-        AnswerKind::RejoinAns,
-        true,
-        9,
-        Role::Home,
-        [true; 4],
-    ),
-    (
-        1000,
-        0x14,
-        AnswerKind::HRStartAns,
-        true,
-        9,
-        Role::Stranger,
-        [false; 4],
-    ),
-    (
-        1000,
-        0x14,
-        AnswerKind::PRStartAns,
-        true,
-        9,
-        Role::Stranger,
-        [false; 4],
-    ),
-    (
-        1000,
-        0x14,
-        AnswerKind::AppSKeyAns,
-        true,
-        9,
-        Role::Stranger,
-        [false; 4],
-    ),
-    (
-        1000,
-        0x14,
-        AnswerKind::OtherAns,
-        true,
-        9,
-        Role::Stranger,
-        [false; 4],
-    ),
-    (
-        1000,
-        0x15,
-        AnswerKind::JoinAns,
-        true,
-        9,
-        Role::Stranger,
-        [false; 4],
-    ),
-    (
-        1000,
-        0x15,
-        AnswerKind::HRStartAns,
-        true,
-        9,
-        Role::Serving,
-        [true, true, true, false],
-    ),
-    (
-        1001,
-        0x15,
-        AnswerKind::HRStartAns,
-        true,
-        9,
-        Role::Stranger,
-        [false; 4],
-    ),
-    (
-        1000,
-        0x15,
-        AnswerKind::PRStartAns,
-        true,
-        600,
-        Role::Forwarding,
-        [true, false, false, false],
-    ),
-    (
-        1000,
-        0x15,
-        AnswerKind::PRStartAns,
-        true,
-        0,
-        Role::Forwarding,
-        [false; 4],
-    ),
-    (
-        1001,
-        0x15,
-        AnswerKind::PRStartAns,
-        true,
-        600,
-        Role::Stranger,
-        [false; 4],
-    ),
-    (
-        1000,
-        APPLICATION,
-        AnswerKind::AppSKeyAns,
-        false,
-        0,
-        Role::Application,
-        [false, false, false, true],
-    ),
-    (
-        1000,
-        APPLICATION,
-        AnswerKind::JoinAns,
-        true,
-        9,
-        Role::Stranger,
-        [false; 4],
-    ),
-    (
-        1000,
-        0xb000000000000001,
-        AnswerKind::AppSKeyAns,
-        true,
-        9,
-        Role::Stranger,
-        [false; 4],
-    ),
-];
+// What the receiver of an answer is to the first device at a moment, and which keys it gets, where
+// the row says `carry_app` and the Lifetime is 600, and with neither. The device is lent to 000015,
+// and granted to all, until 1001.
+fn expect(
+    rt: &impl Abort,
+    tables: &Tables,
+    now: u64,
+    receiver: Sender,
+    asked: AnswerKind,
+    want: Role,
+    keys: &str,
+    bare: &str,
+) {
+    let facts = Facts {
+        lent: Some((NetId::from_be_bytes([0, 0, 0x15]), Moment(1001))),
+        granted: Some(Moment(1001)),
+        now: Moment(now),
+    };
+    if tables.devices().is_empty() {
+        panic!(rt; "no device");
+    }
+    let role = role_of(tables, &facts, 0, receiver, asked);
+    assert!(rt; role == want);
+    let got = letters(keys_for(asked, role, true, 600));
+    assert!(rt; got == keys);
+    let got = letters(keys_for(asked, role, false, 0));
+    assert!(rt; got == bare);
+}
 
 #[test]
 fn each_receiver_gets_the_keys_of_its_role(rt: HostRuntime) -> Result<(), Fail> {
     let Ok(tables) = read_tables(rt.alloc(), TABLES) else {
         return Err(Fail::from("tables"));
     };
-    for (now, id, asked, carry_app, lifetime, role, keys) in ANSWERS {
-        let facts = Facts {
-            lent: NetId::new(0x15).map(|net| (net, Moment(1001))),
-            granted: if *id == 0x15 {
-                Some(Moment(1001))
-            } else {
-                None
-            },
-            now: Moment(*now),
-        };
-        assert!(rt; !tables.devices().is_empty());
-        let is = role_of(&tables, &facts, 0, receiver(*id), *asked);
-        assert_eq!(rt; is, *role);
-        let got = keys_for(*asked, is, *carry_app, *lifetime);
-        assert_eq!(rt; [got.f, got.s, got.e, got.app], *keys);
+    for (now, low, asked, role, keys, bare) in [
+        (1000, 0x14, AnswerKind::JoinAns, Role::Home, "FSEA", "FSE"),
+        (1000, 0x14, AnswerKind::RejoinAns, Role::Home, "FSEA", "FSE"),
+        (1000, 0x14, AnswerKind::HRStartAns, Role::Stranger, "", ""),
+        (1000, 0x14, AnswerKind::AppSKeyAns, Role::Stranger, "", ""),
+        (1000, 0x14, AnswerKind::OtherAns, Role::Stranger, "", ""),
+        (1000, 0x15, AnswerKind::JoinAns, Role::Stranger, "", ""),
+        (
+            1000,
+            0x15,
+            AnswerKind::HRStartAns,
+            Role::Serving,
+            "FSE",
+            "FSE",
+        ),
+        (1001, 0x15, AnswerKind::HRStartAns, Role::Stranger, "", ""),
+        (
+            1000,
+            0x15,
+            AnswerKind::PRStartAns,
+            Role::Forwarding,
+            "F",
+            "",
+        ),
+        (1001, 0x15, AnswerKind::PRStartAns, Role::Stranger, "", ""),
+    ] {
+        let receiver = Sender::Network(NetId::from_be_bytes([0, 0, low]));
+        expect(&rt, &tables, now, receiver, asked, role, keys, bare);
+    }
+    for (id, asked, role, keys, bare) in [
+        (
+            0xa000000000000001,
+            AnswerKind::AppSKeyAns,
+            Role::Application,
+            "A",
+            "A",
+        ),
+        (
+            0xa000000000000001,
+            AnswerKind::JoinAns,
+            Role::Stranger,
+            "",
+            "",
+        ),
+        (
+            0xb000000000000001,
+            AnswerKind::AppSKeyAns,
+            Role::Stranger,
+            "",
+            "",
+        ),
+    ] {
+        expect(
+            &rt,
+            &tables,
+            1000,
+            Sender::Party(Eui(id)),
+            asked,
+            role,
+            keys,
+            bare,
+        );
     }
     Ok(())
 }

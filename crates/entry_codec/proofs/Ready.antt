@@ -2,6 +2,7 @@
 use Rattle.std.proofs.Common.{◌≡◌, ℕ, zero, suc, ◌+◌, ◌<◌, ◌≤◌, Bool, true, false, cond, eqb, List, [], ◌∷◌, length, map, Option, Some, None, option_map, refl, sym, ap, subst, ◌∙◌, arith}
 use Rattle.std.specs.Prelude.{IsTrue, ◌==◌, ◌&&◌, ◌||◌, find, is_some, nat_lt, not, position, slice_get, sum_by}
 use Rattle.std.specs.List.{filter, list_any, position_or_len}
+use Rattle.std.proofs.lemmas.List.{length-map}
 use Rattle.std.proofs.lemmas.Option.{slice_get-map}
 use Rattle.std.proofs.lemmas.List.Sums.{sum_by-cons}
 use Rattle.wire_ids.specs.Lists.{at_place, changed, changed_first, changed_there, holds_of}
@@ -22,6 +23,8 @@ use Rattle.contexts.specs.declared.slots.Slots.{Slots}
 use Rattle.entries.specs.declared.ask.RejoinCount.{RejoinCount}
 use Rattle.entries.specs.declared.change.Change.{Change}
 use Rattle.entries.specs.declared.change.Change.TheVariants as change
+use Rattle.entries.specs.declared.change.Joined.{Joined}
+use Rattle.entries.specs.declared.change.Lending.{Lending}
 use Rattle.entries.specs.declared.change.OwnContext.{OwnContext}
 use Rattle.entries.specs.declared.change.Rejoined.{Rejoined}
 use Rattle.entries.specs.declared.entry.Event.{Event}
@@ -29,7 +32,7 @@ use Rattle.entries.specs.declared.entry.Event.TheVariants as event
 use Rattle.entries.specs.declared.used_seed.UsedSeed.{UsedSeed}
 use Rattle.entries.specs.declared.used_seed.UsedSeed.TheVariants.{Rejoin0, Rejoin1, Rejoin2}
 use Rattle.entry_codec.specs.Devices.{in_slots, lapsed, still_lent, uses_pending}
-use Rattle.entry_codec.specs.Fits.{closes_open, counts_above, counts_before, is_counted_below, is_lent_at, is_lent_by, is_lent_to, may_ask, fits_count, fits_own, fits_rejoin, fits_used, is_above, is_above_count}
+use Rattle.entry_codec.specs.Fits.{can_queue, closes_open, counts_above, counts_before, is_counted_below, is_lent_at, is_lent_by, is_marked, is_lent_to, may_ask, fits_count, fits_join, fits_lending, fits_own, fits_rejoin, fits_step, fits_used, is_above, is_above_count}
 use Rattle.entry_codec.specs.LookUps.{asks_for, at_home, is_same_sender, is_sender, knows_peer, device_has, device_named, device_slots, is_taken, leaves, leaves_slots, lives, slot_has, slots_have, slots_of, visitor_has, visitor_of, visitor_slots}
 use Rattle.entry_codec.specs.Machine.{Machine, change_wakes, has_number, home_or_visitor, holder_of, in_visitor, is_dev, is_home, is_visitor, lapse, on_device, on_slots, on_visitor, place_of, visitor_named, visitor_waking, visits, wake, wakes, without}
 use Rattle.entry_codec.specs.Sound.{IsSound, ask_uses, count_if, device_uses, slots_use, uses, visitor_uses}
@@ -40,7 +43,7 @@ use Rattle.entry_codec.specs.declared.parties.Visitor.{Visitor}
 use Rattle.std.proofs.lemmas.List.Folds.{find_at}
 use Rattle.entry_codec.proofs.Ordered.{place_found}
 use Rattle.entry_codec.proofs.Places.{find-place}
-use Rattle.entry_codec.proofs.Sound.{home_lapse, place-mapped, prefix_len-changed}
+use Rattle.entry_codec.proofs.Sound.{home_lapse, place-mapped, position-mapped, prefix_len-changed}
 use Rattle.entry_codec.proofs.SoundDevices.{same-lapsed}
 use Rattle.entry_codec.proofs.Sums.{any_counted, element-changed, any_map, holds_of-changed, holds_of-map, holds_same, sum_by-change}
 
@@ -60,6 +63,37 @@ has-lapsed addr at d = refl
 pub any_lapsed : (addr : DevAddr) (at : ℕ) (ds : List Device) → list_any (device_has addr) (map (lapsed at) ds) ≡ list_any (device_has addr) ds
 any_lapsed addr at ds = any_map (device_has addr) (lapsed at) (has-lapsed addr at) ds
 
+devices_lapse : (at : ℕ) (m : Machine) → (lapse at m).devices ≡ map (lapsed at) m.devices
+unfolding lapse
+devices_lapse at m = refl
+
+pub any_lapse : (addr : DevAddr) (at : ℕ) (m : Machine) → list_any (device_has addr) (lapse at m).devices ≡ list_any (device_has addr) m.devices
+any_lapse addr at m = ap (list_any (device_has addr)) (devices_lapse at m) ∙ any_lapsed addr at m.devices
+
+pub length_lapse : (at : ℕ) (m : Machine) → length (lapse at m).devices ≡ length m.devices
+length_lapse at m = ap (λ (ds : List Device). length ds) (devices_lapse at m) ∙ length-map m.devices (lapsed at)
+
+pub place_with : (addr : DevAddr) (at : ℕ) (m : Machine) → position (device_has addr) (lapse at m).devices ≡ position (device_has addr) m.devices
+place_with addr at m = ap (λ (ds : List Device). position (device_has addr) ds) (devices_lapse at m) ∙ position-mapped (device_has addr) (lapsed at) m.devices (has-lapsed addr at)
+
+-- what a lapse doesn't touch, of a state
+lapse_as : (p : Device → Bool) (at : ℕ) (m : Machine) (i : ℕ) → ((d : Device) → p (lapsed at d) ≡ p d) → holds_of p (slice_get (lapse at m).devices i) ≡ holds_of p (slice_get m.devices i)
+lapse_as p at m i same = ap (λ (ds : List Device). holds_of p (slice_get ds i)) (devices_lapse at m) ∙ device_as p at m.devices i same
+
+mark-lapsed : (suspended : Bool) (at : ℕ) (d : Device) → is_marked suspended (lapsed at d) ≡ is_marked suspended d
+unfolding lapsed
+mark-lapsed suspended at d = refl
+
+pub mark_lapse : (suspended : Bool) (at : ℕ) (m : Machine) (i : ℕ) → holds_of (is_marked suspended) (slice_get (lapse at m).devices i) ≡ holds_of (is_marked suspended) (slice_get m.devices i)
+mark_lapse suspended at m i = lapse_as (is_marked suspended) at m i (mark-lapsed suspended at)
+
+queue-lapsed : (number at : ℕ) (d : Device) → can_queue number (lapsed at d) ≡ can_queue number d
+unfolding lapsed can_queue
+queue-lapsed number at d = refl
+
+pub queue_lapse : (number at : ℕ) (m : Machine) (i : ℕ) → holds_of (can_queue number) (slice_get (lapse at m).devices i) ≡ holds_of (can_queue number) (slice_get m.devices i)
+queue_lapse number at m i = lapse_as (can_queue number) at m i (queue-lapsed number at)
+
 pub place_lapse : (dev : Eui) (at : ℕ) (m : Machine) → place_of dev (lapse at m) ≡ place_of dev m
 unfolding lapse
 place_lapse dev at m = place-mapped dev (lapsed at) m.devices (same-lapsed at)
@@ -74,8 +108,8 @@ slots-lapsed at None = refl
 slots-lapsed at (Some d) = refl
 
 -- the contexts of a device after the lapse
-pub slots_lapse : (at : ℕ) (ds : List Device) (i : ℕ) → option_map device_slots (slice_get (map (lapsed at) ds) i) ≡ option_map device_slots (slice_get ds i)
-slots_lapse at ds i = ap (option_map device_slots) (slice_get-map (lapsed at) ds i) ∙ slots-lapsed at (slice_get ds i)
+pub slots_lapse : (at : ℕ) (m : Machine) (i : ℕ) → option_map device_slots (slice_get (lapse at m).devices i) ≡ option_map device_slots (slice_get m.devices i)
+slots_lapse at m i = ap (λ (ds : List Device). option_map device_slots (slice_get ds i)) (devices_lapse at m) ∙ ap (option_map device_slots) (slice_get-map (lapsed at) m.devices i) ∙ slots-lapsed at (slice_get m.devices i)
 
 home_by : (dev : Eui) (o : Option ℕ) (at : ℕ) (m : Machine) → home_or_visitor dev o (lapse at m) ≡ cond (holds_of is_home (at_place m.devices o)) (option_map (λ n. holder.Device n) o) (visitor_named dev (lapse at m).visitors)
 unfolding lapse
@@ -138,6 +172,35 @@ rejoin_as j m d e a =
     ∙ ap (λ (n : ℕ). fits_used j.used j.counter d && nat_lt n j.join_nonce && fits_own j.own e m) a.nonce
     ∙ ap (λ (x : Bool). fits_used j.used j.counter d && nat_lt d.join_nonce j.join_nonce && x) (own_as j.own m d e a.home)
 
+join_as : (j : Joined) (m : Machine) (d e : Device) → e.dev_nonce ≡ d.dev_nonce → IsAlike d e → fits_join j m e ≡ fits_join j m d
+join_as j m d e dev_nonce a =
+    ap (λ (o : Option ℕ). is_above j.counter o && nat_lt e.join_nonce j.join_nonce && fits_own j.own e m) dev_nonce
+    ∙ ap (λ (n : ℕ). is_above j.counter d.dev_nonce && nat_lt n j.join_nonce && fits_own j.own e m) a.nonce
+    ∙ ap (λ (x : Bool). is_above j.counter d.dev_nonce && nat_lt d.join_nonce j.join_nonce && x) (own_as j.own m d e a.home)
+
+join-lapsed : (j : Joined) (k : Machine) (at : ℕ) (d : Device) → fits_join j k (lapsed at d) ≡ fits_join j k d
+unfolding lapsed
+join-lapsed j k at d = join_as j k d (lapsed at d) refl (record { seeds = refl; count = refl; nonce = refl; home = refl })
+
+-- the device of a join, as it is before the lapse
+pub join_lapse : (j : Joined) (k : Machine) (at : ℕ) (m : Machine) (i : ℕ) → holds_of (fits_join j k) (slice_get (lapse at m).devices i) ≡ holds_of (fits_join j k) (slice_get m.devices i)
+join_lapse j k at m i = lapse_as (fits_join j k) at m i (join-lapsed j k at)
+
+step_as : (used : Option UsedSeed) (n : ℕ) (d e : Device) → e.dev_nonce ≡ d.dev_nonce → IsAlike d e → fits_step used n e ≡ fits_step used n d
+step_as None n d e dev_nonce a = ap (is_above n) dev_nonce
+step_as (Some used) n d e dev_nonce a = used_as used n d e a.seeds a.count
+
+lending_as : (l : Lending) (d e : Device) → e.dev_nonce ≡ d.dev_nonce → IsAlike d e → fits_lending l e ≡ fits_lending l d
+lending_as l d e dev_nonce a =
+    ap (λ (x : Bool). x && nat_lt e.join_nonce l.join_nonce) (step_as l.used l.counter d e dev_nonce a) ∙ ap (λ (n : ℕ). fits_step l.used l.counter d && nat_lt n l.join_nonce) a.nonce
+
+lending-lapsed : (l : Lending) (at : ℕ) (d : Device) → fits_lending l (lapsed at d) ≡ fits_lending l d
+unfolding lapsed
+lending-lapsed l at d = lending_as l d (lapsed at d) refl (record { seeds = refl; count = refl; nonce = refl; home = refl })
+
+pub lending_lapse : (l : Lending) (at : ℕ) (m : Machine) (i : ℕ) → holds_of (fits_lending l) (slice_get (lapse at m).devices i) ≡ holds_of (fits_lending l) (slice_get m.devices i)
+lending_lapse l at m i = lapse_as (fits_lending l) at m i (lending-lapsed l at)
+
 rejoin-lapsed : (j : Rejoined) (k : Machine) (at : ℕ) (d : Device) → fits_rejoin j k (lapsed at d) ≡ fits_rejoin j k d
 unfolding lapsed
 rejoin-lapsed j k at d = rejoin_as j k d (lapsed at d) (record { seeds = refl; count = refl; nonce = refl; home = refl })
@@ -171,6 +234,20 @@ pub entries_awake : (who : Option Holder) (m : Machine) → (wake who m).entries
 entries_awake None m = refl
 entries_awake (Some (holder.Device i)) m = refl
 entries_awake (Some (holder.Visitor dev)) m = refl
+
+senders_lapse : (at : ℕ) (m : Machine) → (lapse at m).senders ≡ m.senders
+unfolding lapse
+senders_lapse at m = refl
+
+entries_lapse : (at : ℕ) (m : Machine) → (lapse at m).entries ≡ m.entries
+unfolding lapse
+entries_lapse at m = refl
+
+pub senders_then : (who : Option Holder) (at : ℕ) (m : Machine) → (wake who (lapse at m)).senders ≡ m.senders
+senders_then who at m = senders_awake who (lapse at m) ∙ senders_lapse at m
+
+pub entries_then : (who : Option Holder) (at : ℕ) (m : Machine) → (wake who (lapse at m)).entries ≡ m.entries
+entries_then who at m = entries_awake who (lapse at m) ∙ entries_lapse at m
 
 -- ---- addresses, once a pending context is active
 
@@ -275,10 +352,6 @@ lent_device sender at d = lent_by sender at d.lent
 lent_at : (sender : Sender) (at : ℕ) (ds : List Device) (o : Option ℕ) → holds_of (is_lent_by sender) (at_place (map (lapsed at) ds) o) ≡ holds_of (is_lent_at at sender) (at_place ds o)
 lent_at sender at ds None = refl
 lent_at sender at ds (Some i) = device_lapsed (is_lent_by sender) at ds i ∙ holds_same (λ d. is_lent_by sender (lapsed at d)) (is_lent_at at sender) (lent_device sender at) (slice_get ds i)
-
-devices_lapse : (at : ℕ) (m : Machine) → (lapse at m).devices ≡ map (lapsed at) m.devices
-unfolding lapse
-devices_lapse at m = refl
 
 pub lent_lapse : (sender : Sender) (dev : Eui) (at : ℕ) (m : Machine) → holds_of (is_lent_by sender) (device_named dev (lapse at m)) ≡ holds_of (is_lent_at at sender) (device_named dev m)
 lent_lapse sender dev at m =

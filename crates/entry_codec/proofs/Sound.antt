@@ -38,7 +38,7 @@ use Rattle.entries.specs.declared.entry.Entry.{Entry}
 use Rattle.entries.specs.declared.entry.Event.{Event}
 use Rattle.entries.specs.declared.entry.Event.TheVariants as event
 use Rattle.entry_codec.specs.Devices.{called_back, heard, in_slots, joined, lapsed, lent_out, marked, queued, rejoined, with_granted}
-use Rattle.entry_codec.specs.Fits.{can_hold, can_move, can_queue, can_visit, closes_open, fits, fits_asked, fits_change, fits_count, fits_dropped, fits_effect, fits_event, fits_join, fits_lending, fits_own, fits_passive, fits_rejoin, fits_step, fits_told, fits_up, fits_used, has_room_to_hold, is_above, is_free, is_later, is_open_to_all, is_suspended, is_time, may_ask, names_there}
+use Rattle.entry_codec.specs.Fits.{can_hold, can_move, can_queue, can_visit, closes_open, fits, fits_asked, fits_change, fits_count, fits_dropped, fits_effect, fits_event, fits_join, fits_lending, fits_own, fits_passive, fits_rejoin, fits_step, fits_told, fits_up, fits_used, has_room_to_hold, is_above, is_free, is_later, is_marked, is_time, may_ask, names_there}
 use Rattle.entry_codec.specs.LookUps.{asks_for, at_home, device_has, has_visitor, is_addr, is_network, is_sender, is_taken, is_taken_beside, knows_peer, lives, slot_has, slots_have, visitor_has}
 use Rattle.entry_codec.specs.Machine.{Machine, after, ask_number, ask_of, asked, change_wakes, closed, entered, given_context, granted_by, heard_in, held_number, held_session, hold, holder_of, in_visitor, is_dev, is_held, is_held_for, is_home, is_open, is_other, is_session, is_visitor, item_of, lapse, lent_to, move_count, new_visitor, on_change, on_device, on_dropped, on_effect, on_event, on_passive, on_place, on_slots, on_told, on_up, on_visitor, open_ask, place_of, ready, renewed, visit, visitor_number, visits, wake, wakes, with_count, with_rejoin, without}
 use Rattle.entry_codec.specs.Ordered.{IsRisingBy, put_in}
@@ -70,6 +70,11 @@ prefix_len-map_same q f (x ∷ xs) same = rw (same x, prefix_len-map_same q f xs
 
 abbrev place_by : ℕ → ℕ → Option ℕ
 place_by n len = cond (nat_lt n len) (Some n) None
+
+pub position-mapped : {X : Type 0} (p : X → Bool) (f : X → X) (xs : List X) → ((x : X) → p (f x) ≡ p x) → position p (map f xs) ≡ position p xs
+position-mapped {X} p f xs same =
+    ap (λ (n : ℕ). place_by n (length (map f xs))) (prefix_len-map_same (λ (x : X). not (p x)) f xs (λ x. ap not (same x)))
+    ∙ ap (λ (len : ℕ). place_by (position_or_len p xs) len) (length-map xs f)
 
 not_dev : (f : Device → Device) → IsSame f → (dev : Eui) (d : Device) → not (is_dev dev (f d)) ≡ not (is_dev dev d)
 not_dev f same dev d = ap (λ (e : Eui). not (e.0 == dev.0)) (same.name d)
@@ -609,8 +614,8 @@ sound-on_event (event.Tables t) m fits h = sound-more m.entries (m.entries + 1) 
 sound-on_event (event.Kept r c) m fits h = sound-on_change (m.entries + 1) r.sender c m (and_right (nat_lt 0 m.entries && is_sender r.sender m) (fits_change r.sender c m) fits) (sound-more m.entries (m.entries + 1) m (omega arith) h)
 sound-on_event (event.Asked a) m fits h = asked_case a m (and_right (nat_lt 0 m.entries) (fits_asked a m) fits) h
 sound-on_event (event.Told t) m fits h = told_case t m (open_ask t.ask m) (and_right (nat_lt 0 m.entries) (fits_told t m) fits) h
-sound-on_event (event.Suspend device) m fits h = sound-step (m.entries + 1) device (marked true) is_open_to_all m (same-marked true) (λ d can k. sound-marked m.senders true d k) (λ addr d. use-marked addr true d) (and_right (nat_lt 0 m.entries) (holds_of is_open_to_all (slice_get m.devices device)) fits) (sound-more m.entries (m.entries + 1) m (omega arith) h)
-sound-on_event (event.Resume device) m fits h = sound-step (m.entries + 1) device (marked false) is_suspended m (same-marked false) (λ d can k. sound-marked m.senders false d k) (λ addr d. use-marked addr false d) (and_right (nat_lt 0 m.entries) (holds_of is_suspended (slice_get m.devices device)) fits) (sound-more m.entries (m.entries + 1) m (omega arith) h)
+sound-on_event (event.Suspend device) m fits h = sound-step (m.entries + 1) device (marked true) (is_marked false) m (same-marked true) (λ d can k. sound-marked m.senders true d k) (λ addr d. use-marked addr true d) (and_right (nat_lt 0 m.entries) (holds_of (is_marked false) (slice_get m.devices device)) fits) (sound-more m.entries (m.entries + 1) m (omega arith) h)
+sound-on_event (event.Resume device) m fits h = sound-step (m.entries + 1) device (marked false) (is_marked true) m (same-marked false) (λ d can k. sound-marked m.senders false d k) (λ addr d. use-marked addr false d) (and_right (nat_lt 0 m.entries) (holds_of (is_marked true) (slice_get m.devices device)) fits) (sound-more m.entries (m.entries + 1) m (omega arith) h)
 
 pub sound-wake : (who : Option Holder) (m : Machine) → IsSound m → IsSound (wake who m)
 sound-wake None m h = h

@@ -110,8 +110,7 @@ pub first_free : (first : ℕ) (has : DevAddr → Bool) (marks : List Bool) (o :
 first_free first has marks None len e are = λ i within. sym (are i (omega (arith, within, len))) ∙ place_passes marks i (omega (arith, within, len, place_past not marks e))
 first_free first has marks (Some n) len e are =
     let here : n ≡ position_or_len not marks = place_found not marks n e in
-    let lt : n < length marks = place_within not marks n e in
-    (
+    let lt : n < length marks = place_within not marks n e in (
       omega (arith, lt, len),
       λ i within. sym (are i (omega (arith, within, lt))) ∙ place_passes marks i (omega (arith, within, here)),
       sym (are n lt) ∙ ap (λ (k : ℕ). get_or marks k false) here ∙ place_stops marks (omega (arith, lt, here)),
@@ -166,8 +165,8 @@ free_found net from n m all free so_far =
     let taken = is_number_taken net m in
     let found : free_from taken (room_of net) 0 ≡ cond (nat_lt (from + n) (room_of net)) (Some (from + n)) None =
     so_far ∙ skip taken n (room_of net - from) from (λ i lt. subst (λ (k : ℕ). is_taken (addr_of k) m ≡ true) (omega arith) (all i lt))
-        ∙ stop taken (room_of net - from - n) (from + n) (subst (λ (k : ℕ). is_taken (addr_of k) m ≡ false) (omega arith) free)
-        ∙ ap (λ (b : Bool). cond b (Some (from + n)) None) (in_room (room_of net) from n) in
+    ∙ stop taken (room_of net - from - n) (from + n) (subst (λ (k : ℕ). is_taken (addr_of k) m ≡ false) (omega arith) free)
+    ∙ ap (λ (b : Bool). cond b (Some (from + n)) None) (in_room (room_of net) from n) in
     by (nat_lt (from + n) (room_of net)) ∙ ap (option_map (λ (k : ℕ). base_of net + k)) (sym found)
   where
     by : (b : Bool) → cond b (Some (base_of net + (from + n))) None ≡ option_map (λ (k : ℕ). base_of net + k) (cond b (Some (from + n)) None)

@@ -206,11 +206,8 @@ fits_told t m = holds_of (fits_effect t.ask t.effect m) (open_ask t.ask m)
 
 -- ---- all entries
 
-abbrev pub is_open_to_all : Device → Bool
-is_open_to_all d = not d.suspended
-
-abbrev pub is_suspended : Device → Bool
-is_suspended d = d.suspended
+abbrev pub is_marked : Bool → Device → Bool
+is_marked suspended d = if suspended then d.suspended else not d.suspended
 
 -- an event fits a state in which what has ended is gone, and its named context is active
 unfoldable pub fits_event : Event → Machine → Bool
@@ -219,8 +216,8 @@ fits_event (event.Tables text) m = m.entries == 0
 fits_event (event.Kept request c) m = nat_lt 0 m.entries && is_sender request.sender m && fits_change request.sender c m
 fits_event (event.Asked a) m = nat_lt 0 m.entries && fits_asked a m
 fits_event (event.Told t) m = nat_lt 0 m.entries && fits_told t m
-fits_event (event.Suspend device) m = nat_lt 0 m.entries && holds_of is_open_to_all (slice_get m.devices device)
-fits_event (event.Resume device) m = nat_lt 0 m.entries && holds_of is_suspended (slice_get m.devices device)
+fits_event (event.Suspend device) m = nat_lt 0 m.entries && holds_of (is_marked false) (slice_get m.devices device)
+fits_event (event.Resume device) m = nat_lt 0 m.entries && holds_of (is_marked true) (slice_get m.devices device)
 
 -- the moment isn't below the last one and is at most 2^53, and there is a number for one more entry
 abbrev pub is_time : ℕ → Machine → Bool

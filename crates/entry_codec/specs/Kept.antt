@@ -38,7 +38,7 @@ abbrev pub told_of : AskOutcome → Option OpenAsk → Option Request
 told_of t a = told_request t.kept t.answer a
 
 -- the request whose answer an event keeps; that of a told one is its ask's
-unfoldable pub kept_by : Event → Machine → Option Request
+abbrev pub kept_by : Event → Machine → Option Request
 kept_by (event.Kept request c) m = Some request
 kept_by (event.Told t) m = told_of t (open_ask t.ask m)
 kept_by _ m = None

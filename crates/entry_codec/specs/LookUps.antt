@@ -17,6 +17,7 @@ use Rattle.entry_codec.specs.Machine.{Machine, is_dev, is_home, is_other, is_vis
 use Rattle.entry_codec.specs.declared.device.Device.{Device}
 use Rattle.entry_codec.specs.declared.parties.Holder.{Holder}
 use Rattle.entry_codec.specs.declared.parties.Holder.TheVariants as holder
+use Rattle.entry_codec.specs.declared.parties.LiveContext.{LiveContext}
 use Rattle.entry_codec.specs.declared.parties.OpenAsk.{OpenAsk}
 use Rattle.entry_codec.specs.declared.parties.Visitor.{Visitor}
 
@@ -109,9 +110,27 @@ leaves_slots addr s = is_some s.pending && slot_has addr s.active
 unfoldable pub leaves : DevAddr → Option Holder → Machine → Bool
 leaves addr who m = holds_of (leaves_slots addr) (slots_of who m)
 
-abbrev pub holder_in : DevAddr → Option ℕ → Machine → Option Holder
-holder_in addr (Some device) m = Some (holder.Device device)
-holder_in addr None m = option_map (λ (v : Visitor). holder.Visitor v.dev_eui) (find (visitor_has addr) m.visitors)
+abbrev pub visitor_with : DevAddr → Machine → Option Holder
+visitor_with addr m = option_map (λ (v : Visitor). holder.Visitor v.dev_eui) (find (visitor_has addr) m.visitors)
+
+abbrev pub holder_from : DevAddr → Option ℕ → Machine → Option Holder
+holder_from addr (Some device) m = Some (holder.Device device)
+holder_from addr None m = visitor_with addr m
+
+-- who has the context with this address
+unfoldable pub holder_with : DevAddr → Machine → Option Holder
+holder_with addr m = holder_from addr (position (device_has addr) m.devices) m
+
+abbrev pub is_active_at : DevAddr → Slots → Bool
+is_active_at addr s = slot_has addr s.active
+
+abbrev pub live_at : DevAddr → Option Holder → Machine → Option LiveContext
+live_at addr None m = None
+live_at addr (Some who) m = Some (record { holder = who; pending = not (holds_of (is_active_at addr) (slots_of (Some who) m)) })
+
+-- the context with this address: whose it is, and whether it is the pending one
+unfoldable pub live_context : DevAddr → Machine → Option LiveContext
+live_context addr m = live_at addr (holder_with addr m) m
 
 -- ---- kept bodies
 

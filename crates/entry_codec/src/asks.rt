@@ -21,7 +21,7 @@ fn place(asks: &[OpenAsk], number: u64) -> Option<usize>
 }
 
 // Takes out the first ask of this number, where there is one.
-#[tactic(auto, using(crate::proofs::Places::none_found, crate::proofs::Places::pulled, crate::proofs::Places::left))]
+#[tactic(auto, using(crate::proofs::Places::none_found, crate::proofs::Places::pulled))]
 fn pull(asks: &mut Vec<OpenAsk>, number: u64) -> Option<OpenAsk>
     ensures found { result ≡ find (has_number number) asks.old.items }
     ensures left { filter (is_other number) asks.new.items ≡ filter (is_other number) asks.old.items }

@@ -1,273 +1,39 @@
 //! Which entries fit, looked at in the state before the lapse.
 
-ghost use Rattle.std.specs.Prelude.{◌≡◌, ◌==◌, ◌&&◌, ◌||◌, length, nat_lt, option_map, slice_get};
-ghost use Rattle.contexts.specs.Slots.{woken};
-ghost use Rattle.entry_codec.specs.Sound.{IsSound};
-ghost use Rattle.std.specs.Option.{option_copied};
 ghost use Rattle.std.specs.List.{filter, list_any};
-ghost use Rattle.wire_ids.specs.Lists.{at_place, holds_of};
-ghost use Rattle.entry_codec.specs.Fits.{can_hold, can_move, can_queue, can_visit, closes_open};
-ghost use Rattle.entry_codec.specs.Fits.{counts_before, fits, fits_asked, fits_change, fits_count};
-ghost use Rattle.entry_codec.specs.Fits.{fits_own, has_pending, is_counted_below, is_lent_at, may_ask};
-ghost use Rattle.entry_codec.specs.Fits.{fits_dropped, fits_effect, fits_event, fits_join};
-ghost use Rattle.entry_codec.specs.Fits.{fits_lending, fits_passive, fits_rejoin, fits_step};
-ghost use Rattle.entry_codec.specs.Fits.{fits_told, fits_up, fits_used, has_room_to_hold};
-ghost use Rattle.entry_codec.specs.Fits.{is_above_count, is_free, is_guest_of, is_lent_by};
-ghost use Rattle.entry_codec.specs.Fits.{is_open_to_all, is_suspended, is_time, names_there};
-ghost use Rattle.entry_codec.specs.Fits.{pending_is_there};
+ghost use Rattle.std.specs.Option.{option_copied};
+ghost use Rattle.std.specs.Prelude.{◌&&◌, ◌==◌, ◌≡◌, length, nat_lt, slice_get};
+ghost use Rattle.wire_ids.specs.Lists.{holds_of};
+ghost use Rattle.contexts.specs.Slots.{woken};
+ghost use Rattle.entry_codec.specs.Fits.{can_queue, closes_open, counts_before, fits, fits_asked};
+ghost use Rattle.entry_codec.specs.Fits.{fits_change, fits_count, fits_dropped, fits_effect};
+ghost use Rattle.entry_codec.specs.Fits.{fits_event, fits_join, fits_lending, fits_own};
+ghost use Rattle.entry_codec.specs.Fits.{fits_passive, fits_rejoin, fits_step, fits_told, fits_up};
+ghost use Rattle.entry_codec.specs.Fits.{fits_used, has_pending, is_above_count, is_counted_below};
+ghost use Rattle.entry_codec.specs.Fits.{is_free, is_guest_of, is_lent_at, is_lent_by, is_marked};
+ghost use Rattle.entry_codec.specs.Fits.{is_time, may_ask, names_there, pending_is_there};
 ghost use Rattle.entry_codec.specs.Index.{IsIndex, names};
-ghost use Rattle.entry_codec.specs.LookUps.{asks_for, at_home, device_has, device_named, device_slots};
-ghost use Rattle.entry_codec.specs.LookUps.{has_visitor, is_network, is_sender, is_taken};
-ghost use Rattle.entry_codec.specs.LookUps.{is_taken_beside, knows_peer, leaves, lives, slots_have};
-ghost use Rattle.entry_codec.specs.LookUps.{slot_has, slots_of, visitor_has, visitor_of};
-ghost use Rattle.entry_codec.specs.Machine.{held_session, holder_of, is_held_for, is_other, lapse};
-ghost use Rattle.entry_codec.specs.Machine.{change_wakes, open_ask, visitor_named, visitor_waking, wake, wakes};
-ghost use Rattle.entry_codec.specs.Machine.{without};
+ghost use Rattle.entry_codec.specs.LookUps.{device_named, is_sender, knows_peer, visitor_of};
+ghost use Rattle.entry_codec.specs.Machine.{change_wakes, is_held_for, is_other, lapse};
+ghost use Rattle.entry_codec.specs.Machine.{visitor_waking, wake, wakes, without};
+ghost use Rattle.entry_codec.specs.Sound.{IsSound};
 
-use crate::held::{held_number, is_held_for, is_the_network, session_number};
+use crate::held::{is_held_for, is_the_network};
 use crate::index::Index;
-use crate::kept::is_same_sender;
+use crate::look_ups::asks_for;
 use crate::now::Now;
 use crate::uplink::{fits_slots, is_above, takes};
 use crate::{Device, Holder, OpenAsk, Visitor};
 use contexts::{Context, Slots};
 use entries::{
-    AskOutcome, Change, Effect, Entry, Event, HeldSession, Joined, Lending, NewAsk, OwnContext,
-    PassiveUplink, Queued, RejoinCount, Rejoined, RoamingKind, Stopped, Uplink, UsedSeed,
+    AskOutcome, Change, Effect, Entry, Event, Joined, Lending, NewAsk, OwnContext, PassiveUplink,
+    Queued, RejoinCount, Rejoined, RoamingKind, Stopped, Uplink, UsedSeed,
 };
-use wire_ids::{DevAddr, Eui, NetId, PeerId, Sender};
-
-fn slot_has(slot: &Option<Context>, addr: DevAddr) -> bool
-    ensures { result ≡ slot_has addr slot.now }
-{
-    match slot {
-        None => false,
-        Some(context) => context.addr.0 == addr.0,
-    }
-}
-
-#[tactic(auto, unfolding(crate::specs::LookUps::slots_have))]
-fn slots_have(slots: &Slots, addr: DevAddr) -> bool
-    ensures { result ≡ slots_have addr slots.now }
-{
-    slot_has(&slots.active, addr) || slot_has(&slots.pending, addr)
-}
-
-fn asks_for(ask: &OpenAsk, addr: DevAddr) -> bool
-    ensures { result ≡ asks_for addr ask.now }
-{
-    match ask.target.dev_addr {
-        None => false,
-        Some(own) => own.0 == addr.0,
-    }
-}
-
-// ---- look-ups at a moment
-
-impl Now {
-    /// Whether the sender has a row.
-    pub(crate) fn is_sender(&self, sender: Sender) -> bool
-        ensures { result ≡ is_sender sender self.now.machine }
-    {
-        self.senders.iter().any(|own| is_same_sender(sender, *own))
-    }
-
-    /// Whether the network has a row.
-    pub(crate) fn is_network(&self, net: NetId) -> bool
-        ensures { result ≡ is_network net self.now.machine }
-    {
-        self.is_sender(Sender::Network(net))
-    }
-
-    fn knows_peer(&self, peer: PeerId) -> bool
-        ensures { result ≡ knows_peer peer self.now.machine }
-    {
-        match peer {
-            PeerId::Network(net) => self.is_network(net),
-            PeerId::JoinServer(_) => true,
-        }
-    }
-
-    /// The visitor of this name.
-    #[tactic(auto, unfolding(crate::specs::Machine::lapse))]
-    pub(crate) fn visitor(&self, dev: Eui, at: u64) -> Option<&Visitor>
-        ensures { option_copied result ≡ visitor_of dev (lapse at self.now.machine) }
-    {
-        self.visitors
-            .iter()
-            .filter(|visitor| at < visitor.until.0)
-            .find(|visitor| visitor.dev_eui.0 == dev.0)
-    }
-
-    #[tactic(auto, unfolding(crate::specs::Machine::lapse))]
-    fn has_visitor(&self, dev: Eui, at: u64) -> bool
-        ensures { result ≡ has_visitor dev (lapse at self.now.machine) }
-    {
-        self.visitors
-            .iter()
-            .filter(|visitor| at < visitor.until.0)
-            .any(|visitor| visitor.dev_eui.0 == dev.0)
-    }
-
-    #[tactic(auto, unfolding(crate::specs::Machine::lapse))]
-    fn count_visitors(&self, at: u64) -> usize
-        ensures { result ≡ length (lapse at self.now.machine).visitors }
-    {
-        self.visitors
-            .iter()
-            .filter(|visitor| at < visitor.until.0)
-            .count()
-    }
-
-    /// The open ask of this number.
-    #[tactic(auto, unfolding(crate::specs::Machine::lapse))]
-    pub(crate) fn open_ask(&self, number: u64, at: u64) -> Option<&OpenAsk>
-        ensures { option_copied result ≡ open_ask number (lapse at self.now.machine) }
-    {
-        self.asks
-            .iter()
-            .filter(|ask| at < ask.ends.0)
-            .find(|ask| ask.number == number)
-    }
-
-    /// The held session of this network and address.
-    #[tactic(auto, unfolding(crate::specs::Machine::lapse))]
-    pub(crate) fn held_session(&self, net: NetId, addr: DevAddr, at: u64) -> Option<&HeldSession>
-        ensures { option_copied result ≡ held_session net addr (lapse at self.now.machine) }
-    {
-        let number = session_number(net, addr);
-        self.held
-            .iter()
-            .filter(|held| at < held.until.0)
-            .find(|held| held_number(held) == number)
-    }
-
-    #[tactic(auto, unfolding(crate::specs::Machine::lapse))]
-    fn count_held(&self, at: u64) -> usize
-        ensures { result ≡ length (lapse at self.now.machine).held }
-    {
-        self.held.iter().filter(|held| at < held.until.0).count()
-    }
-
-    fn device_has(&self, addr: DevAddr) -> bool
-        ensures { result ≡ list_any (device_has addr) self.now.machine.devices }
-    {
-        self.devices
-            .iter()
-            .any(|device| slots_have(&device.slots, addr))
-    }
-
-    #[tactic(auto, unfolding(crate::specs::Machine::lapse), using(crate::proofs::Ready::any_lapsed))]
-    fn has_own(&self, addr: DevAddr, at: u64) -> bool
-        ensures { result ≡ list_any (device_has addr) (lapse at self.now.machine).devices }
-    {
-        self.device_has(addr)
-    }
-
-    #[tactic(auto, unfolding(crate::specs::Machine::lapse))]
-    fn has_given(&self, addr: DevAddr, at: u64) -> bool
-        ensures { result ≡ list_any (visitor_has addr) (lapse at self.now.machine).visitors }
-    {
-        self.visitors
-            .iter()
-            .filter(|visitor| at < visitor.until.0)
-            .any(|visitor| slots_have(&visitor.slots, addr))
-    }
-
-    #[tactic(auto, unfolding(crate::specs::Machine::lapse))]
-    fn has_asked(&self, addr: DevAddr, at: u64) -> bool
-        ensures { result ≡ list_any (asks_for addr) (lapse at self.now.machine).asks }
-    {
-        self.asks
-            .iter()
-            .filter(|ask| at < ask.ends.0)
-            .any(|ask| asks_for(ask, addr))
-    }
-
-    #[tactic(auto, unfolding(crate::specs::Machine::lapse))]
-    fn has_asked_beside(&self, number: u64, addr: DevAddr, at: u64) -> bool
-        ensures { result
-            ≡ list_any (asks_for addr)
-            (filter (is_other number) (lapse at self.now.machine).asks) }
-    {
-        self.asks
-            .iter()
-            .filter(|ask| at < ask.ends.0)
-            .filter(|ask| ask.number != number)
-            .any(|ask| asks_for(ask, addr))
-    }
-
-    #[tactic(auto, unfolding(crate::specs::LookUps::lives))]
-    fn lives(&self, addr: DevAddr, at: u64) -> bool
-        ensures { result ≡ lives addr (lapse at self.now.machine) }
-    {
-        self.has_own(addr, at) || self.has_given(addr, at)
-    }
-
-    /// Whether a context or an open ask has the address.
-    #[tactic(auto, unfolding(crate::specs::LookUps::is_taken))]
-    pub(crate) fn is_taken(&self, addr: DevAddr, at: u64) -> bool
-        ensures { result ≡ is_taken addr (lapse at self.now.machine) }
-    {
-        self.lives(addr, at) || self.has_asked(addr, at)
-    }
-
-    #[tactic(auto, unfolding(crate::specs::LookUps::is_taken_beside))]
-    fn is_taken_beside(&self, number: u64, addr: DevAddr, at: u64) -> bool
-        ensures { result ≡ is_taken_beside number addr (lapse at self.now.machine) }
-    {
-        self.lives(addr, at) || self.has_asked_beside(number, addr, at)
-    }
-}
+use wire_ids::{DevAddr, Eui, Sender};
 
 // ---- joins and rejoins
 
 impl Now {
-    fn device_slots(&self, device: u32) -> Option<&Slots>
-        ensures { option_copied result ≡ option_map device_slots (slice_get self.now.machine.devices device) }
-    {
-        match self.devices.as_slice().get(device as usize) {
-            None => None,
-            Some(device) => Some(&device.slots),
-        }
-    }
-
-    /// The contexts of a device or a visitor.
-    #[tactic(auto, unfolding(crate::specs::Machine::lapse, crate::specs::LookUps::slots_of), using(crate::proofs::Ready::slots_lapse))]
-    pub(crate) fn slots(&self, who: Option<Holder>, at: u64) -> Option<&Slots>
-        ensures { option_copied result ≡ slots_of who (lapse at self.now.machine) }
-    {
-        match who {
-            None => None,
-            Some(Holder::Device(device)) => self.device_slots(device),
-            Some(Holder::Visitor(dev)) => match self.visitor(dev, at) {
-                None => None,
-                Some(visitor) => Some(&visitor.slots),
-            },
-        }
-    }
-
-    // Whether the address is that of an active context in whose place the pending one comes.
-    #[tactic(auto, unfolding(crate::specs::LookUps::leaves))]
-    fn leaves(&self, addr: DevAddr, who: Option<Holder>, at: u64) -> bool
-        ensures { result ≡ leaves addr who (lapse at self.now.machine) }
-    {
-        match self.slots(who, at) {
-            None => false,
-            Some(slots) => slots.pending.is_some() && slot_has(&slots.active, addr),
-        }
-    }
-
-    /// Whether a context or an open ask has the address, once the pending context of `who` is
-    /// active.
-    #[tactic(auto, using(crate::proofs::Ready::taken_awake, crate::proofs::Sound::sound_lapsed))]
-    pub(crate) fn is_taken_awake(&self, addr: DevAddr, who: Option<Holder>, at: u64) -> bool
-        requires { IsSound self.now.machine }
-        ensures { result ≡ is_taken addr (wake who (lapse at self.now.machine)) }
-    {
-        !self.leaves(addr, who, at) && self.is_taken(addr, at)
-    }
-
     fn fits_own(
         &self,
         own: Option<OwnContext>,
@@ -293,17 +59,26 @@ impl Now {
             && self.fits_own(join.own, device, None, at)
     }
 
-    #[tactic(auto, unfolding(crate::specs::Machine::lapse, crate::specs::Devices::lapsed), using(crate::proofs::Ready::device_lapsed))]
+    // The same, of the device as it is before.
+    fn could_join(&self, join: &Joined, at: u64) -> bool
+        requires { IsSound self.now.machine }
+        ensures { result ≡ holds_of (fits_join join.now (lapse at self.now.machine))
+            (slice_get self.now.machine.devices join.now.device) }
+    {
+        match self.devices.as_slice().get(join.device as usize) {
+            None => false,
+            Some(device) => self.can_join(join, device, at),
+        }
+    }
+
+    #[tactic(auto, using(crate::proofs::Ready::join_lapse))]
     fn fits_join(&self, join: &Joined, at: u64) -> bool
         requires { IsSound self.now.machine }
         ensures { result
             ≡ holds_of (fits_join join.now (lapse at self.now.machine))
             (slice_get (lapse at self.now.machine).devices join.now.device) }
     {
-        match self.devices.as_slice().get(join.device as usize) {
-            None => false,
-            Some(device) => self.can_join(join, device, at),
-        }
+        self.could_join(join, at)
     }
 
     fn can_rejoin(&self, join: &Rejoined, device: &Device, who: Option<Holder>, at: u64) -> bool
@@ -338,11 +113,9 @@ impl Now {
         self.could_rejoin(join, who, at)
     }
 
-    #[tactic(auto, unfolding(crate::specs::Machine::lapse, crate::specs::Devices::lapsed), using(crate::proofs::Ready::device_lapsed))]
-    fn fits_lending(&self, lending: &Lending, at: u64) -> bool
-        ensures { result
-            ≡ holds_of (fits_lending lending.now)
-            (slice_get (lapse at self.now.machine).devices lending.now.device) }
+    fn could_lend(&self, lending: &Lending) -> bool
+        ensures { result ≡ holds_of (fits_lending lending.now)
+            (slice_get self.now.machine.devices lending.now.device) }
     {
         match self.devices.as_slice().get(lending.device as usize) {
             None => false,
@@ -351,6 +124,14 @@ impl Now {
                     && device.join_nonce.get() < lending.join_nonce.get()
             }
         }
+    }
+
+    #[tactic(auto, using(crate::proofs::Ready::lending_lapse))]
+    fn fits_lending(&self, lending: &Lending, at: u64) -> bool
+        ensures { result ≡ holds_of (fits_lending lending.now)
+            (slice_get (lapse at self.now.machine).devices lending.now.device) }
+    {
+        self.could_lend(lending)
     }
 }
 
@@ -386,62 +167,6 @@ fn can_step(used: Option<UsedSeed>, n: u16, device: &Device) -> bool
 // ---- uplinks, queues and what is dropped
 
 impl Now {
-    #[tactic(auto, unfolding(crate::specs::Machine::lapse))]
-    fn visitor_named_at(&self, dev: Eui, at: u64) -> Option<Holder>
-        ensures { result ≡ visitor_named dev (lapse at self.now.machine).visitors }
-    {
-        if self.has_visitor(dev, at) {
-            Some(Holder::Visitor(dev))
-        } else {
-            None
-        }
-    }
-
-    fn device_named(&self, index: &Index, dev: Eui) -> Option<&Device>
-        requires { IsIndex index.now (names self.now.machine.devices) }
-        ensures { option_copied result ≡ device_named dev self.now.machine }
-    {
-        match self.place(index, dev) {
-            None => None,
-            Some(device) => self.devices.as_slice().get(device as usize),
-        }
-    }
-
-    fn is_at_home(&self, index: &Index, dev: Eui) -> bool
-        requires { IsIndex index.now (names self.now.machine.devices) }
-        ensures { result ≡ at_home dev self.now.machine }
-    {
-        match self.device_named(index, dev) {
-            None => false,
-            Some(device) => device.is_home,
-        }
-    }
-
-    /// Whether the device is at home here.
-    #[tactic(auto, using(crate::proofs::Sound::home_lapse))]
-    pub(crate) fn at_home(&self, index: &Index, dev: Eui, at: u64) -> bool
-        requires { IsIndex index.now (names self.now.machine.devices) }
-        ensures { result ≡ at_home dev (lapse at self.now.machine) }
-    {
-        self.is_at_home(index, dev)
-    }
-
-    /// Who has contexts by this name at a moment: a device at home here, or a visitor.
-    #[tactic(auto, using(crate::proofs::Ready::holder_lapse))]
-    pub(crate) fn holder_at(&self, index: &Index, dev: Eui, at: u64) -> Option<Holder>
-        requires { IsIndex index.now (names self.now.machine.devices) }
-        ensures { result ≡ holder_of dev (lapse at self.now.machine) }
-    {
-        if self.is_at_home(index, dev) {
-            match self.place(index, dev) {
-                None => None,
-                Some(device) => Some(Holder::Device(device)),
-            }
-        } else {
-            self.visitor_named_at(dev, at)
-        }
-    }
-
     fn fits_up(&self, index: &Index, up: &Uplink, at: u64) -> bool
         requires { IsIndex index.now (names self.now.machine.devices) }
         ensures { result ≡ fits_up up.now (lapse at self.now.machine) }
@@ -453,13 +178,6 @@ impl Now {
             }
     }
 
-    #[tactic(auto, unfolding(crate::specs::Machine::lapse))]
-    fn is_network_at(&self, net: NetId, at: u64) -> bool
-        ensures { result ≡ is_network net (lapse at self.now.machine) }
-    {
-        self.is_network(net)
-    }
-
     fn fits_passive(&self, index: &Index, passive: &PassiveUplink, at: u64) -> bool
         requires { IsIndex index.now (names self.now.machine.devices) }
         ensures { result ≡ fits_passive passive.now (lapse at self.now.machine) }
@@ -469,11 +187,10 @@ impl Now {
             && self.fits_up(index, &passive.up, at)
     }
 
-    #[tactic(auto, unfolding(crate::specs::Machine::lapse, crate::specs::Devices::lapsed, crate::specs::Fits::can_queue), using(crate::proofs::Ready::device_lapsed))]
-    fn fits_queue(&self, queued: &Queued, at: u64) -> bool
-        ensures { result
-            ≡ holds_of (can_queue queued.now.number)
-            (slice_get (lapse at self.now.machine).devices queued.now.device) }
+    #[tactic(auto, unfolding(crate::specs::Fits::can_queue))]
+    fn can_queue(&self, queued: &Queued) -> bool
+        ensures { result ≡ holds_of (can_queue queued.now.number)
+            (slice_get self.now.machine.devices queued.now.device) }
     {
         match self.devices.as_slice().get(queued.device as usize) {
             None => false,
@@ -482,6 +199,14 @@ impl Now {
                 Some(context) => takes(context, queued.number),
             },
         }
+    }
+
+    #[tactic(auto, using(crate::proofs::Ready::queue_lapse))]
+    fn fits_queue(&self, queued: &Queued, at: u64) -> bool
+        ensures { result ≡ holds_of (can_queue queued.now.number)
+            (slice_get (lapse at self.now.machine).devices queued.now.device) }
+    {
+        self.can_queue(queued)
     }
 
     #[tactic(auto, unfolding(crate::specs::Machine::lapse))]
@@ -701,54 +426,6 @@ impl Now {
             && self.fits_count(ask.target.dev_eui, ask.target.rejoin, at)
     }
 
-    fn has_room_to_visit(&self, dev: Eui, at: u64) -> bool
-        ensures { result
-            ≡ (has_visitor dev (lapse at self.now.machine)
-            || nat_lt (length (lapse at self.now.machine).visitors) 1024) }
-    {
-        self.has_visitor(dev, at) || self.count_visitors(at) < 1024
-    }
-
-    /// Whether the device may visit under the address of this ask.
-    #[tactic(auto, unfolding(crate::specs::Fits::can_visit))]
-    pub(crate) fn can_visit(
-        &self,
-        index: &Index,
-        ask: u64,
-        dev: Eui,
-        addr: DevAddr,
-        at: u64,
-    ) -> bool
-        requires { IsIndex index.now (names self.now.machine.devices) }
-        ensures { result ≡ can_visit ask dev addr (lapse at self.now.machine) }
-    {
-        !self.at_home(index, dev, at)
-            && !self.is_taken_beside(ask, addr, at)
-            && self.has_room_to_visit(dev, at)
-    }
-
-    /// Whether a session may be held.
-    #[tactic(auto, unfolding(crate::specs::Fits::can_hold))]
-    pub(crate) fn can_hold(&self, net: NetId, addr: DevAddr, count: u32, at: u64) -> bool
-        ensures { result ≡ can_hold net addr count (lapse at self.now.machine) }
-    {
-        match self.held_session(net, addr, at) {
-            None => self.count_held(at) < 4096,
-            Some(held) => held.count < count,
-        }
-    }
-
-    /// Whether the count of a held session may be moved.
-    #[tactic(auto, unfolding(crate::specs::Fits::can_move))]
-    pub(crate) fn can_move(&self, net: NetId, addr: DevAddr, count: u32, at: u64) -> bool
-        ensures { result ≡ can_move net addr count (lapse at self.now.machine) }
-    {
-        match self.held_session(net, addr, at) {
-            None => false,
-            Some(held) => held.count < count,
-        }
-    }
-
     #[tactic(auto, unfolding(crate::specs::Fits::fits_effect))]
     fn fits_effect(
         &self,
@@ -826,43 +503,40 @@ impl Now {
         }
     }
 
-    #[tactic(auto, unfolding(crate::specs::Machine::lapse, crate::specs::Devices::lapsed), using(crate::proofs::Ready::device_lapsed))]
-    fn is_suspended(&self, device: u32, at: u64) -> bool
-        ensures { result
-            ≡ holds_of is_suspended (slice_get (lapse at self.now.machine).devices device) }
+    // Whether the device is there, and suspended or not.
+    fn is_marked(&self, device: u32, suspended: bool) -> bool
+        ensures { result ≡ holds_of (is_marked suspended)
+            (slice_get self.now.machine.devices device) }
     {
         match self.devices.as_slice().get(device as usize) {
             None => false,
-            Some(device) => device.suspended,
+            Some(device) => device.suspended == suspended,
         }
     }
 
-    #[tactic(auto, unfolding(crate::specs::Machine::lapse, crate::specs::Devices::lapsed), using(crate::proofs::Ready::device_lapsed))]
-    fn is_open_to_all(&self, device: u32, at: u64) -> bool
-        ensures { result
-            ≡ holds_of is_open_to_all (slice_get (lapse at self.now.machine).devices device) }
+    #[tactic(auto, using(crate::proofs::Ready::mark_lapse))]
+    fn is_marked_at(&self, device: u32, suspended: bool, at: u64) -> bool
+        ensures { result ≡ holds_of (is_marked suspended)
+            (slice_get (lapse at self.now.machine).devices device) }
     {
-        match self.devices.as_slice().get(device as usize) {
-            None => false,
-            Some(device) => !device.suspended,
-        }
+        self.is_marked(device, suspended)
     }
 
-    #[tactic(auto, unfolding(crate::specs::Machine::lapse), using(crate::proofs::Ready::senders_awake))]
+    #[tactic(auto, using(crate::proofs::Ready::senders_then))]
     fn is_sender_awake(&self, sender: Sender, who: Option<Holder>, at: u64) -> bool
         ensures { result ≡ is_sender sender (wake who (lapse at self.now.machine)) }
     {
         self.is_sender(sender)
     }
 
-    #[tactic(auto, unfolding(crate::specs::Machine::lapse), using(crate::proofs::Ready::entries_awake))]
+    #[tactic(auto, using(crate::proofs::Ready::entries_then))]
     fn has_begun(&self, who: Option<Holder>, at: u64) -> bool
         ensures { result ≡ nat_lt 0 (wake who (lapse at self.now.machine)).entries }
     {
         self.entries > 0
     }
 
-    #[tactic(auto, unfolding(crate::specs::Machine::lapse), using(crate::proofs::Ready::entries_awake))]
+    #[tactic(auto, using(crate::proofs::Ready::entries_then))]
     fn is_empty(&self, who: Option<Holder>, at: u64) -> bool
         ensures { result ≡ ((wake who (lapse at self.now.machine)).entries == 0) }
     {
@@ -885,13 +559,13 @@ impl Now {
                 && self.fits_change(index, request.sender, change, who, at),
             Event::Asked(ask) => begun && self.fits_asked(ask, who, at),
             Event::Told(outcome) => begun && self.fits_told(index, outcome, at),
-            Event::Suspend(device) => begun && self.is_open_to_all(*device, at),
-            Event::Resume(device) => begun && self.is_suspended(*device, at),
+            Event::Suspend(device) => begun && self.is_marked_at(*device, false, at),
+            Event::Resume(device) => begun && self.is_marked_at(*device, true, at),
         }
     }
 
     #[tactic(auto, using(crate::proofs::Ready::wakes_lapse))]
-    fn wakes_at(&self, event: &Event, at: u64) -> Option<Holder>
+    pub(crate) fn wakes_at(&self, event: &Event, at: u64) -> Option<Holder>
         ensures { result ≡ wakes event.now (lapse at self.now.machine) }
     {
         self.wakes(event)

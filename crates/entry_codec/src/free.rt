@@ -46,10 +46,8 @@ fn mark_slots(marks: &mut [bool], first: u32, slots: &Slots)
 }
 
 fn mark_devices(marks: &mut [bool], first: u32, devices: &[Device])
-    ensures {
-        Marks first (λ (a : dev_addr.DevAddr). list_any (device_has a) devices.now)
-            marks.old marks.new
-    }
+    ensures { Marks first (λ (a : dev_addr.DevAddr). list_any (device_has a) devices.now)
+        marks.old marks.new }
 {
     for device in devices {
         mark_slots(marks, first, &device.slots);
@@ -57,9 +55,7 @@ fn mark_devices(marks: &mut [bool], first: u32, devices: &[Device])
 }
 
 fn mark_visitor(marks: &mut [bool], first: u32, visitor: &Visitor, at: u64)
-    ensures {
-        Marks first (λ (a : dev_addr.DevAddr). visitor_stays at a visitor.now) marks.old marks.new
-    }
+    ensures { Marks first (λ (a : dev_addr.DevAddr). visitor_stays at a visitor.now) marks.old marks.new }
 {
     if at < visitor.until.0 {
         mark_slots(marks, first, &visitor.slots);
@@ -67,10 +63,8 @@ fn mark_visitor(marks: &mut [bool], first: u32, visitor: &Visitor, at: u64)
 }
 
 fn mark_visitors(marks: &mut [bool], first: u32, visitors: &[Visitor], at: u64)
-    ensures {
-        Marks first (λ (a : dev_addr.DevAddr). list_any (visitor_stays at a) visitors.now)
-            marks.old marks.new
-    }
+    ensures { Marks first (λ (a : dev_addr.DevAddr). list_any (visitor_stays at a) visitors.now)
+        marks.old marks.new }
 {
     for visitor in visitors {
         mark_visitor(marks, first, visitor, at);
@@ -88,10 +82,8 @@ fn mark_ask(marks: &mut [bool], first: u32, ask: &OpenAsk, at: u64)
 }
 
 fn mark_asks(marks: &mut [bool], first: u32, asks: &[OpenAsk], at: u64)
-    ensures {
-        Marks first (λ (a : dev_addr.DevAddr). list_any (ask_stays at a) asks.now)
-            marks.old marks.new
-    }
+    ensures { Marks first (λ (a : dev_addr.DevAddr). list_any (ask_stays at a) asks.now)
+        marks.old marks.new }
 {
     for ask in asks {
         mark_ask(marks, first, ask, at);
@@ -109,11 +101,9 @@ fn slots_leave(slots: &Slots) -> Option<DevAddr>
 }
 
 fn unmark(marks: &mut [bool], first: u32, addr: Option<DevAddr>)
-    ensures {
-        (length marks.new ≡ length marks.old) × ((i : ℕ) → i < length marks.old →
-            slice_index_or marks.new i false
-                ≡ (not (is_addr (addr_of (first + i)) addr) && slice_index_or marks.old i false))
-    }
+    ensures { (length marks.new ≡ length marks.old) × ((i : ℕ) → i < length marks.old →
+        slice_index_or marks.new i false
+        ≡ (not (is_addr (addr_of (first + i)) addr) && slice_index_or marks.old i false)) }
 {
     if let Some(addr) = addr {
         if first <= addr.0 {
@@ -143,10 +133,8 @@ impl Now {
 
     // Marks the addresses of the window that are taken.
     fn mark_taken(&self, marks: &mut [bool], first: u32, at: u64)
-        ensures {
-            Marks first (λ (a : dev_addr.DevAddr). is_taken a (lapse at self.now.machine))
-                marks.old marks.new
-        }
+        ensures { Marks first (λ (a : dev_addr.DevAddr). is_taken a (lapse at self.now.machine))
+            marks.old marks.new }
     {
         mark_devices(marks, first, self.devices.as_slice());
         mark_visitors(marks, first, self.visitors.as_slice(), at);
@@ -156,10 +144,8 @@ impl Now {
     // The first number of the window that is free.
     fn free_in_window(&self, first: u32, who: Option<Holder>, at: u64) -> Option<usize>
         requires { IsSound self.now.machine }
-        ensures {
-            IsFirstFree first (λ (a : dev_addr.DevAddr). is_taken a (wake who (lapse at self.now.machine)))
-                result
-        }
+        ensures { IsFirstFree first (λ (a : dev_addr.DevAddr). is_taken a (wake who (lapse at self.now.machine)))
+            result }
     {
         let mut marks = [false; WINDOW];
         self.mark_taken(&mut marks, first, at);
@@ -171,10 +157,8 @@ impl Now {
     /// pending context of `who` is active; none exactly where all are taken.
     pub(crate) fn free_address(&self, net: NetId, who: Option<Holder>, at: u64) -> Option<DevAddr>
         requires { IsSound self.now.machine }
-        ensures {
-            option_map (λ (a : dev_addr.DevAddr). a.0) result
-                ≡ free_address net (wake who (lapse at self.now.machine))
-        }
+        ensures { option_map (λ (a : dev_addr.DevAddr). a.0) result
+            ≡ free_address net (wake who (lapse at self.now.machine)) }
     {
         // It has 24 bits, and so at most 2^25 addresses.
         let _ = net.get();

@@ -11,15 +11,17 @@ mod held;
 mod index;
 mod kept;
 pub mod laws;
+mod look_ups;
 mod made;
 mod now;
 mod parties;
 mod placing;
+mod reading;
 mod state;
 mod uplink;
 mod visitors;
 
 pub use device::{Device, Granted, KeptSeed, LentTo};
 pub use kept::{KeptAnswers, KeptPair, KeptPairs};
-pub use parties::{Holder, OpenAsk, Visitor};
+pub use parties::{Holder, LiveContext, OpenAsk, Visitor};
 pub use state::State;

@@ -366,7 +366,7 @@ impl Now {
 
     /// What an event makes of a state in which what has ended is gone, and its named context is
     /// active; and the request whose answer is kept.
-    #[tactic(auto, unfolding(crate::specs::Machine::on_event, crate::specs::Kept::kept_by, crate::specs::Fits::fits_event), using(crate::proofs::Sound::ask_has_place))]
+    #[tactic(auto, unfolding(crate::specs::Machine::on_event, crate::specs::Fits::fits_event))]
     pub(crate) fn enter(&mut self, index: &Index, event: Event) -> Option<Request>
         requires index { IsIndex index.now (names self.old.machine.devices) }
         requires fits { IsTrue (fits_event event self.old.machine) }

@@ -9,6 +9,13 @@ pub enum Holder {
     Visitor(Eui),
 }
 
+/// Where a context is: whose it is, and whether it is the pending one.
+#[derive(Clone, Copy, Debug, PartialEq, Eq)]
+pub struct LiveContext {
+    pub holder: Holder,
+    pub pending: bool,
+}
+
 /// A device that another network lent to this desk by a handover.
 #[derive(Drop)]
 pub struct Visitor {

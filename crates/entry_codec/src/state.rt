@@ -29,9 +29,9 @@ use wire_ids::{DevAddr, Eui, Memory, Moment, NetId, Sender, ShortText};
 /// may have to give again. Nothing but entries changes it.
 #[derive(Drop)]
 pub struct State {
-    current: Now,
-    kept: Vec<KeptAnswers>,
-    index: Index,
+    pub(crate) current: Now,
+    pub(crate) kept: Vec<KeptAnswers>,
+    pub(crate) index: Index,
     // Nothing ends before this moment.
     due: u64,
 }

@@ -12,7 +12,7 @@ returns-in-Some-free_in_window c =
     let m = wake c.args.who (lapse c.args.at c.args.self.now.machine) in
     let first : Some c.in-Some.first.0 ≡ address_of c.args.net c.loop-first.from = sym (ap (option_map (λ (a : DevAddr). a.0)) c.in-Some.is) ∙ c.address_of.ensures in
     c.address_of-in-Some-free_in_window.ensures ∙ found_here c.args.net c.loop-first.from c.in-Some.first.0 c.in-Some-free_in_window.n m first
-        (subst (λ (o : Option ℕ). IsFirstFree c.in-Some.first.0 (λ (a : DevAddr). is_taken a m) o) c.in-Some-free_in_window.is c.free_in_window.ensures) c.loop-first.invariant.so_far
+    (subst (λ (o : Option ℕ). IsFirstFree c.in-Some.first.0 (λ (a : DevAddr). is_taken a m) o) c.in-Some-free_in_window.is c.free_in_window.ensures) c.loop-first.invariant.so_far
 
 pub loop-first-preserved : goal.loop-first-preserved
 loop-first-preserved c =

@@ -18,9 +18,11 @@ struct Feed {
 }
 
 impl Source for Feed {
+    ghost use Rattle.disk_model.specs.Memory.{source_faults};
+
     ghost left = { λ feed. None };
 
-    ghost faults = { λ feed. feed.bytes.faults };
+    ghost faults = { λ feed. source_faults feed.bytes };
 
     fn read(&mut self, room: &mut [u8]) -> Result<usize, Failed> {
         let count = self.bytes.read(room)?;

@@ -9,7 +9,7 @@ use Rattle.wire_ids.specs.declared.party.Sender.{Sender}
 use Rattle.wire_ids.proofs.Lists.{changed-cons}
 use Rattle.contexts.specs.Slots.{activated}
 use Rattle.contexts.specs.declared.slots.Slots.{Slots}
-use Rattle.agreements.specs.LookUps.{HasPlaces}
+use Rattle.agreements.specs.LookUps.{AreFound as HasPlaces}
 use Rattle.agreements.specs.Walk.{Config}
 use Rattle.agreements.specs.declared.rows.DeviceRow.{DeviceRow}
 use Rattle.entries.specs.declared.ask.Effect.{Effect}

@@ -1,7 +1,7 @@
 -- The JoinNonces that a history gives out.
 use Rattle.std.specs.Prelude.{◌≡◌, ◌≢◌, ℕ, ◌<◌, List, [], ◌∷◌, slice_get, Option, Some, None, option_map, AllPairs}
 use Rattle.wire_ids.specs.declared.eui.Eui.{Eui}
-use Rattle.agreements.specs.LookUps.{HasPlaces}
+use Rattle.agreements.specs.LookUps.{AreFound as HasPlaces}
 use Rattle.agreements.specs.Walk.{Config}
 use Rattle.entries.specs.declared.change.Change.{Change}
 use Rattle.entries.specs.declared.change.Change.TheVariants as change

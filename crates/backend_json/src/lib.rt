@@ -13,8 +13,6 @@ mod object;
 mod refusal;
 mod request;
 mod session;
-#[cfg(test)]
-mod tests;
 mod value;
 mod writing;
 

@@ -5,8 +5,6 @@
 mod context;
 mod queue;
 mod slots;
-#[cfg(test)]
-mod tests;
 
 pub use context::{Context, FrameBuf, Item, ItemQueue, Origin, Payload, channels_of};
 pub use queue::{ItemFault, first_item, next_down, push_item, take_item};

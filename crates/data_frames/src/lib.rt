@@ -7,8 +7,6 @@ mod downlink;
 pub mod laws;
 mod mic;
 mod sending;
-#[cfg(test)]
-mod tests;
 mod uplink;
 
 pub use buffer::DownBytes;

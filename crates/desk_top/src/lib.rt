@@ -9,8 +9,6 @@ mod last_line;
 mod opening;
 mod program;
 mod sample;
-#[cfg(test)]
-mod tests;
 mod vaulted;
 mod words;
 

@@ -12,8 +12,6 @@ mod open;
 mod read;
 mod recover;
 mod steps;
-#[cfg(test)]
-mod tests;
 mod window;
 
 pub use fault::JournalFault;

@@ -14,8 +14,6 @@ mod plan;
 mod ran;
 mod steps;
 mod stream;
-#[cfg(test)]
-mod tests;
 mod whole;
 
 pub use calls::{Calls, MemoryCalls};

@@ -4,8 +4,6 @@
 mod envelopes;
 mod keys;
 mod roles;
-#[cfg(test)]
-mod tests;
 
 pub use envelopes::envelope;
 pub use keys::{KeySet, keys_for};

@@ -12,8 +12,6 @@ mod name_spelling;
 mod out;
 mod request_spelling;
 mod rest;
-#[cfg(test)]
-mod tests;
 mod unread;
 mod used_seed;
 

@@ -8,8 +8,6 @@ mod open;
 mod pieces;
 mod requests;
 mod sealing;
-#[cfg(test)]
-mod tests;
 
 pub use accept::{Accept, AcceptKind};
 pub use join_up::{JoinUp, read_up};

@@ -5,8 +5,6 @@ mod block_fn;
 mod derive;
 mod key_ring;
 mod row_cipher;
-#[cfg(test)]
-mod tests;
 mod vault;
 
 pub use block_fn::{BlockFn, RootKind};

@@ -7,8 +7,6 @@ ghost use Rattle.key_wrap.specs.Wrap.{wrapped_key};
 
 pub mod laws;
 mod registers;
-#[cfg(test)]
-mod tests;
 
 use aes_cmac::RoundKeys;
 use registers::Registers;

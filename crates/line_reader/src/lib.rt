@@ -4,8 +4,6 @@
 mod ahead;
 mod fault;
 mod reader;
-#[cfg(test)]
-mod tests;
 
 pub use ahead::{Ahead, INPUT_LIMIT};
 pub use fault::LineFault;

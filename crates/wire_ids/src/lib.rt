@@ -15,8 +15,6 @@ mod net_id;
 mod nonce;
 mod party;
 mod radio;
-#[cfg(test)]
-mod tests;
 mod text;
 mod three;
 

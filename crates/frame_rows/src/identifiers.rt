@@ -1,9 +1,9 @@
-use crate::{
+use std::process::Abort;
+use std::test::Fail;
+use wire_ids::{
     BoundedText, Decision, DevAddr, Eui, IdFault, NetId, Nonce24, PeerId, ShortText, Text,
     address_of, net_matches, without_prefix,
 };
-use std::process::Abort;
-use std::test::Fail;
 
 fn expect_address(rt: &impl Abort, net: u32, n: u32, want: Option<u32>) {
     match NetId::new(net) {

@@ -1,7 +1,7 @@
 ghost use Rattle.std.specs.Prelude.{◌≤◌, length};
 
 // The bytes and MICs were made by the CMAC of Python's `cryptography` (bench/frames.py).
-use crate::{
+use data_frames::{
     DataUp, Down, DownBytes, UpParts, full_count, mic_f_ok, mic_up_ok, read_data, up_bytes,
     write_down,
 };

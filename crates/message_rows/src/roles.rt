@@ -1,5 +1,5 @@
-use crate::{AnswerKind, Facts, KeySet, Role, keys_for, role_of};
 use agreements::{Tables, read_tables};
+use entitlement::{AnswerKind, Facts, KeySet, Role, keys_for, role_of};
 use std::process::Abort;
 use std::test::Fail;
 use wire_ids::{Eui, Moment, NetId, Sender};

@@ -3,7 +3,7 @@ mod hollow;
 ghost use Rattle.std.specs.Prelude.{◌+◌, ◌≤◌, ◌^◌, length};
 ghost use Rattle.disk_journal.specs.Journals.{journal_end, Holds, Rests};
 
-use crate::{Journal, JournalFault};
+use disk_journal::{Journal, JournalFault};
 use disk_model::{Disk, FuseDisk, MemoryDisk};
 use hollow::Hollow;
 use std::alloc::Global;

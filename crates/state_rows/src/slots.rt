@@ -1,10 +1,10 @@
 ghost use Rattle.std.specs.Prelude.{◌≤◌, length};
 
-use crate::{
+use arrayvec::ArrayVec;
+use contexts::{
     Context, Item, ItemFault, Origin, Slots, accept_up, activate, channels_of, first_item,
     next_down, offer, push_item, take_item,
 };
-use arrayvec::ArrayVec;
 use std::process::Abort;
 use std::test::Fail;
 use wire_ids::{DevAddr, Eui, Nonce24, Radio, Seed};

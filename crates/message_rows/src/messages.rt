@@ -1,6 +1,8 @@
 //! What the program doesn't print: which member a fault names, and what a peer says.
 
-use crate::{Answer, Bad, Head, Message, MessageType, Outcome, Refusal, answer_text, read_message};
+use backend_json::{
+    Answer, Bad, Head, Message, MessageType, Outcome, Refusal, answer_text, read_message,
+};
 use std::alloc::Global;
 use std::test::Fail;
 use wire_ids::{Eui, NetId, PeerId, Sender, Text};

@@ -1,4 +1,4 @@
-use crate::{
+use disk_model::{
     Calls, Clock, ClosedClock, ClosedDisk, ClosedLink, Disk, Failed, FixedClock, FuseDisk, Link,
     LinkFault, MemoryCalls, MemoryDisk, MemorySink, MemorySource, ScriptLink, Sink, Source,
     write_whole,

@@ -1,5 +1,5 @@
 use Rattle.disk_journal.specs.Journals.{Holds}
-use Rattle.disk_journal.proofs.tests.shows.Given as goal
+use Rattle.disk_rows.proofs.journals.shows.Given as goal
 
 abbrev pub invariant-records : goal.invariant-records
 invariant-records g l = Holds g.D.Disk.seen l.journal

@@ -1,6 +1,6 @@
 use Rattle.std.proofs.Common.{◌+◌, ◌≤◌, ◌^◌, length}
 use Rattle.disk_journal.specs.Journals.{Doubts, journal_end}
-use Rattle.disk_journal.proofs.tests.adds.Given as goal
+use Rattle.disk_rows.proofs.journals.adds.Given as goal
 
 abbrev pub invariant-tries : goal.invariant-tries
 invariant-tries g l = record {

@@ -1,7 +1,7 @@
 ghost use Rattle.std.specs.Prelude.{◌<◌, ◌^◌, None};
 
-use crate::{Ahead, Heard, LineFault, next_line};
 use disk_model::{Failed, MemorySource, Source};
+use line_reader::{Ahead, Heard, LineFault, next_line};
 use std::alloc::{AllocError, Global};
 use std::test::Fail;
 

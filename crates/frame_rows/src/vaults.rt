@@ -2,10 +2,10 @@ ghost use Rattle.std.specs.Prelude.{◌≡◌, ◌<◌, ◌≤◌, length, vec_l
 ghost use Rattle.aes_cmac.specs.Aes.{encrypted, decrypted};
 ghost use Rattle.key_vault.specs.Table.{Serves, Encrypts, Decrypts, root_key};
 
-use crate::{
+use aes_cmac::RoundKeys;
+use key_vault::{
     BlockFn, KeyRing, RootKind, Vault, app_s_key_of, js_enc_of, js_int_of, session_keys_of,
 };
-use aes_cmac::RoundKeys;
 use std::alloc::{AllocError, Global};
 use std::process::Abort;
 use std::test::Fail;

@@ -1,4 +1,4 @@
-use crate::{
+use entries::{
     AskKind, AskOutcome, Change, Downlink, Effect, Entry, Event, HeldCount, HeldSession, Joined,
     Lending, NewAsk, NewVisitor, OwnContext, PassiveUplink, Queued, RejoinCount, Rejoined, Request,
     RoamingKind, SeedPlace, Stopped, Target, Uplink, UsedSeed, decode, encode,

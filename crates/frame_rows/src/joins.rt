@@ -2,7 +2,7 @@ ghost use Rattle.std.specs.Prelude.{◌≡◌, ◌<◌, ◌≤◌, length, vec_l
 ghost use Rattle.aes_cmac.specs.Aes.{encrypted, decrypted};
 ghost use Rattle.key_vault.specs.Table.{Serves, Encrypts, Decrypts, root_key};
 
-use crate::{
+use join_frames::{
     Accept, AcceptKind, JoinUp, accept_bytes, join_bytes, join_mic_ok, open_accept, read_up,
     rejoin_mic_ok, rejoin1_bytes, rejoin02_bytes,
 };

@@ -1,4 +1,4 @@
-use crate::{unwrap, wrap};
+use key_wrap::{unwrap, wrap};
 use std::test::Fail;
 
 #[test]

@@ -1,0 +1,7 @@
+//! Worked rows of what the desk keeps.
+#![tactic(auto)]
+
+#[cfg(test)]
+mod slots;
+#[cfg(test)]
+mod spellings;

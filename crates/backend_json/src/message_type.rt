@@ -24,13 +24,20 @@ pub enum ReceiverKind {
 #[derive(Clone, Copy, Debug, PartialEq, Eq)]
 pub enum MessageType {
     JoinReq,
+    RejoinReq,
     AppSKeyReq,
+    HomeNSReq,
     /// A type that isn't served.
     Unknown,
 }
 
 // The types that are served.
-const SERVED: [MessageType; 2] = [MessageType::JoinReq, MessageType::AppSKeyReq];
+const SERVED: [MessageType; 4] = [
+    MessageType::JoinReq,
+    MessageType::RejoinReq,
+    MessageType::AppSKeyReq,
+    MessageType::HomeNSReq,
+];
 
 impl MessageType {
     // The table of the types: name, the answer's name, and the kinds of sender and receiver.
@@ -45,7 +52,9 @@ impl MessageType {
         use SenderKind::{Application, Network, Nobody};
         match self {
             MessageType::JoinReq => ("JoinReq", "JoinAns", Network, JoinServer),
+            MessageType::RejoinReq => ("RejoinReq", "RejoinAns", Network, JoinServer),
             MessageType::AppSKeyReq => ("AppSKeyReq", "AppSKeyAns", Application, JoinServer),
+            MessageType::HomeNSReq => ("HomeNSReq", "HomeNSAns", Network, JoinServer),
             MessageType::Unknown => ("", "ErrorNotif", Nobody, Any),
         }
     }

@@ -1,5 +1,5 @@
 -- The types of messages (TS002, Messages and Payloads).
-use Rattle.std.specs.Prelude.{ℕ, List, [], ◌∷◌, codes, find, unwrap_or}
+use Rattle.std.specs.Prelude.{ℕ, List, [], ◌∷◌, Bool, codes, find, unwrap_or}
 use Rattle.std.specs.Str.{bytes_eq}
 use Rattle.backend_json.specs.declared.message_type.MessageType.{MessageType}
 use Rattle.backend_json.specs.declared.message_type.MessageType.TheVariants.{JoinReq, RejoinReq, AppSKeyReq, HomeNSReq, Unknown}
@@ -41,6 +41,10 @@ receiver_of message_type = (type_row message_type).receiver
 abbrev pub served : List MessageType
 served = JoinReq ∷ RejoinReq ∷ AppSKeyReq ∷ HomeNSReq ∷ []
 
--- the type of this name, byte for byte
+-- byte for byte
+abbrev pub has_name : List ℕ → MessageType → Bool
+has_name name message_type = bytes_eq (name_of message_type) name
+
+-- the type of this name
 abbrev pub type_named : List ℕ → MessageType
-type_named name = unwrap_or (find (λ message_type. bytes_eq (name_of message_type) name) served) Unknown
+type_named name = unwrap_or (find (has_name name) served) Unknown

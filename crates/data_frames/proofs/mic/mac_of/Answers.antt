@@ -4,5 +4,5 @@ use Rattle.data_frames.proofs.mic.mac_of.Goals as goal
 
 pub returns : goal.returns
 returns c =
-    c.finish.ensures _ _ (c.update-2.ensures _ _ (c.update.ensures _ _ c.new-mac.ensures))
-    ∙ ap (λ (block : List ℕ). mac c.args.keys.now (block ++ c.args.message.now)) c.mic_block-block.ensures
+    c.finish.ensures _ _ (c.update-2.ensures _ _ (c.update.ensures _ _ c.begin-mac.ensures))
+    ∙ ap (λ (block : List ℕ). mac c.args.key.now (block ++ c.args.message.now)) c.mic_block-block.ensures

@@ -6,7 +6,7 @@ ghost use Rattle.data_frames.specs.Mics.{Fits, HasFHalf, HasSHalf, IsChannel, Is
 ghost use Rattle.data_frames.specs.Mics.{mic_block, s_half, without_mic};
 
 use crate::DataUp;
-use aes_cmac::{CmacKey, same_bytes};
+use aes_cmac::{CmacKey, RoundKeys, same_bytes};
 use wire_ids::{DevAddr, SessionKeys};
 
 /// What a MIC's first block tells beside the frame's address, counter and length.
@@ -39,7 +39,7 @@ fn mic_block(fields: BlockFields, addr: DevAddr, count: u32, len: usize) -> [u8;
 
 // The CMAC of the block and the message.
 pub(crate) fn mac_of(
-    key: &CmacKey,
+    key: &CmacKey<'_>,
     fields: BlockFields,
     addr: DevAddr,
     count: u32,
@@ -67,7 +67,13 @@ pub(crate) fn f_half(f: &[u8; 16], addr: DevAddr, count: u32, message: &[u8]) ->
         channel: 0,
         dir: 0,
     };
-    let mac = mac_of(&CmacKey::new(f), fields, addr, count, message);
+    let mac = mac_of(
+        &CmacKey::of(&RoundKeys::new(f)),
+        fields,
+        addr,
+        count,
+        message,
+    );
     [mac[0], mac[1]]
 }
 
@@ -82,7 +88,7 @@ pub(crate) struct B1Fields {
 // The two bytes of cmacS.
 #[tactic(auto, unfolding(crate::specs::Mics::s_half))]
 pub(crate) fn s_half(
-    key: &CmacKey,
+    key: &CmacKey<'_>,
     addr: DevAddr,
     count: u32,
     sent: B1Fields,
@@ -117,7 +123,7 @@ pub fn mic_f_ok(f: &[u8; 16], up: &DataUp<'_>, count: u32) -> bool
 }
 
 // Whether the S half is that of the frame as it was sent.
-fn has_s_half(key: &CmacKey, up: &DataUp<'_>, count: u32, sent: B1Fields) -> bool
+fn has_s_half(key: &CmacKey<'_>, up: &DataUp<'_>, count: u32, sent: B1Fields) -> bool
     ensures { IsTrue result ↔ HasSHalf key.now up.now count sent.conf sent.rate sent.channel }
 {
     let half = s_half(key, up.addr, count, sent, without_mic(up.whole));
@@ -132,7 +138,7 @@ fn is_enabled(channels: u8, channel: u8) -> bool
 }
 
 // Whether the channel is enabled, and the S half that of the frame on it.
-fn fits(key: &CmacKey, up: &DataUp<'_>, count: u32, channels: u8, sent: B1Fields) -> bool
+fn fits(key: &CmacKey<'_>, up: &DataUp<'_>, count: u32, channels: u8, sent: B1Fields) -> bool
     requires { sent.channel < 8 }
     ensures { IsTrue result ↔ IsEnabled channels sent.channel
         × HasSHalf key.now up.now count sent.conf sent.rate sent.channel }
@@ -157,7 +163,8 @@ pub fn mic_up_ok(
     if !mic_f_ok(&keys.f, up, count) {
         return None;
     }
-    let s = CmacKey::new(&keys.s);
+    let round_keys = RoundKeys::new(&keys.s);
+    let s = CmacKey::of(&round_keys);
     'channels: for channel in 0..8 {
         let sent = B1Fields {
             conf,

@@ -1,12 +1,12 @@
 // Message integrity codes (LoRaWAN 1.1, 4.4).
-ghost use Rattle.std.specs.Prelude.{◌≡◌, ◌<◌, ◌≤◌, ◌↔◌, ◌++◌, ℕ, length, IsTrue};
+ghost use Rattle.std.specs.Prelude.{◌≡◌, ◌<◌, ◌≤◌, ◌↔◌, ◌++◌, ℕ, List, [], length, IsTrue};
 ghost use Rattle.std.specs.Prelude.{IfSome, IfNone};
-ghost use Rattle.aes_cmac.specs.Mac.{mac};
+ghost use Rattle.aes_cmac.specs.Mac.{mac, Holds};
 ghost use Rattle.data_frames.specs.Mics.{Fits, HasFHalf, HasSHalf, IsChannel, IsEnabled, f_half};
 ghost use Rattle.data_frames.specs.Mics.{mic_block, s_half, without_mic};
 
 use crate::DataUp;
-use aes_cmac::{CmacKey, RoundKeys, same_bytes};
+use aes_cmac::{Cmac, CmacKey, RoundKeys, same_bytes};
 use wire_ids::{DevAddr, SessionKeys};
 
 /// What a MIC's first block tells beside the frame's address, counter and length.
@@ -37,21 +37,20 @@ fn mic_block(fields: BlockFields, addr: DevAddr, count: u32, len: usize) -> [u8;
     block
 }
 
-// The CMAC of the block and the message.
+// The CMAC of the block and the message, from one that is begun.
 pub(crate) fn mac_of(
-    key: &CmacKey<'_>,
+    begun: Cmac<'_>,
     fields: BlockFields,
     addr: DevAddr,
     count: u32,
     message: &[u8],
 ) -> [u8; 16]
-    ensures { result ≡ mac key.now
+    ensures { (key : List ℕ) → Holds key begun.entry [] → result ≡ mac key
         (mic_block fields.conf fields.rate fields.channel fields.dir addr count (length message.now)
         ++ message.now) }
 {
-    let block = mic_block(fields, addr, count, message.len());
-    let mut mac = key.begin();
-    mac.update(&block);
+    let mut mac = begun;
+    mac.update(&mic_block(fields, addr, count, message.len()));
     mac.update(message);
     mac.finish()
 }
@@ -67,13 +66,7 @@ pub(crate) fn f_half(f: &[u8; 16], addr: DevAddr, count: u32, message: &[u8]) ->
         channel: 0,
         dir: 0,
     };
-    let mac = mac_of(
-        &CmacKey::of(&RoundKeys::new(f)),
-        fields,
-        addr,
-        count,
-        message,
-    );
+    let mac = mac_of(Cmac::new(&RoundKeys::new(f)), fields, addr, count, message);
     [mac[0], mac[1]]
 }
 
@@ -102,7 +95,7 @@ pub(crate) fn s_half(
         channel: sent.channel,
         dir: 0,
     };
-    let mac = mac_of(key, fields, addr, count, message);
+    let mac = mac_of(key.begin(), fields, addr, count, message);
     [mac[0], mac[1]]
 }
 

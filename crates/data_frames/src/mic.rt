@@ -106,8 +106,9 @@ fn without_mic(frame: &[u8]) -> &[u8]
     &frame[..frame.len().saturating_sub(4)]
 }
 
-/// Whether the last two bytes of the frame are those of its F half under FNwkSIntKey, at this
-/// counter (LoRaWAN 1.1, 4.4).
+/// Whether the last two bytes of the frame's MIC are those of its F half under FNwkSIntKey, at this
+/// counter (LoRaWAN 1.1, 4.4). The message is `whole` but for its last four bytes, and empty where
+/// it has fewer; of a length above 255, which no frame of `read_data` has, the low byte counts.
 pub fn mic_f_ok(f: &[u8; 16], up: &DataUp<'_>, count: u32) -> bool
     ensures { IsTrue result ↔ HasFHalf f.now up.now count }
 {
@@ -141,7 +142,8 @@ fn fits(key: &CmacKey<'_>, up: &DataUp<'_>, count: u32, channels: u8, sent: B1Fi
 
 /// The channel of an uplink: the least of the enabled ones, whose bits are set in `channels`, on
 /// which its MIC is that of this counter, ConfFCnt `conf` and TxDr `rate` (LoRaWAN 1.1, 4.4). None
-/// exactly where there is no such channel. The F half, in which no channel stands, is tried first.
+/// exactly where there is no such channel. The message is that of `mic_f_ok`. The F half, in which
+/// no channel stands, is tried first.
 pub fn mic_up_ok(
     keys: &SessionKeys,
     up: &DataUp<'_>,

@@ -6,10 +6,10 @@ use Rattle.wire_ids.specs.declared.address.DevAddr.{DevAddr}
 use Rattle.wire_ids.specs.declared.keys.SessionKeys.{SessionKeys}
 use Rattle.data_frames.specs.declared.uplink.DataUp.{DataUp}
 
--- the block before a message of n bytes: 0x49, ConfFCnt, TxDr, TxCh, Dir, DevAddr, the frame counter, 0, n
+-- the block before a message of n bytes: 0x49, ConfFCnt, TxDr, TxCh, Dir, DevAddr, the frame counter, 0, and n in one byte
 abbrev pub mic_block : ℕ → ℕ → ℕ → ℕ → DevAddr → ℕ → ℕ → List ℕ
 mic_block conf rate channel dir addr count n =
-    0x49 ∷ to_le_bytes w16 conf ++ (rate ∷ channel ∷ dir ∷ to_le_bytes w32 addr.0 ++ (to_le_bytes w32 count ++ 0 ∷ n ∷ []))
+    0x49 ∷ to_le_bytes w16 conf ++ (rate ∷ channel ∷ dir ∷ to_le_bytes w32 addr.0 ++ (to_le_bytes w32 count ++ 0 ∷ n % 2 ^ 8 ∷ []))
 
 -- B0 of an uplink, which tells neither ConfFCnt nor TxDr nor TxCh
 abbrev pub b0 : DevAddr → ℕ → ℕ → List ℕ
@@ -39,7 +39,7 @@ up_mic keys addr count conf rate channel message = s_half keys.s addr count conf
 unfoldable pub down_mic : List ℕ → DevAddr → ℕ → ℕ → List ℕ → List ℕ
 down_mic s addr count conf message = take 4 (mac s (b0_down conf addr count (length message) ++ message))
 
--- a frame without its MIC
+-- a frame without its MIC, the last four bytes
 abbrev pub without_mic : List ℕ → List ℕ
 without_mic frame = take (length frame - 4) frame
 

@@ -5,7 +5,7 @@ ghost use Rattle.data_frames.specs.Downlinks.{down_message, down_text};
 use crate::DownBytes;
 use crate::buffer::{Fields, message};
 use crate::mic::{BlockFields, mac_of};
-use aes_cmac::RoundKeys;
+use aes_cmac::{Cmac, RoundKeys};
 use wire_ids::{DevAddr, SessionKeys};
 
 /// A data downlink (LoRaWAN 1.1, 4.3).
@@ -80,7 +80,7 @@ pub fn write_down(keys: &SessionKeys, down: &Down<'_>) -> DownBytes
         dir: 1,
     };
     let mac = mac_of(
-        &RoundKeys::new(&keys.s),
+        Cmac::new(&RoundKeys::new(&keys.s)),
         fields,
         down.addr,
         down.count,

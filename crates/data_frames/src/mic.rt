@@ -1,12 +1,12 @@
 // Message integrity codes (LoRaWAN 1.1, 4.4).
-ghost use Rattle.std.specs.Prelude.{◌≡◌, ◌<◌, ◌≤◌, ◌↔◌, ◌++◌, ℕ, length, IsTrue};
+ghost use Rattle.std.specs.Prelude.{◌≡◌, ◌<◌, ◌≤◌, ◌↔◌, ◌++◌, ℕ, List, [], length, IsTrue};
 ghost use Rattle.std.specs.Prelude.{IfSome, IfNone};
-ghost use Rattle.aes_cmac.specs.Mac.{mac};
+ghost use Rattle.aes_cmac.specs.Mac.{mac, Holds};
 ghost use Rattle.data_frames.specs.Mics.{Fits, HasFHalf, HasSHalf, IsChannel, IsEnabled, f_half};
-ghost use Rattle.data_frames.specs.Mics.{mic_block, s_half};
+ghost use Rattle.data_frames.specs.Mics.{mic_block, s_half, without_mic};
 
 use crate::DataUp;
-use aes_cmac::{Cmac, RoundKeys, same_bytes};
+use aes_cmac::{Cmac, CmacKey, RoundKeys, same_bytes};
 use wire_ids::{DevAddr, SessionKeys};
 
 /// What a MIC's first block tells beside the frame's address, counter and length.
@@ -18,7 +18,7 @@ pub(crate) struct BlockFields {
     pub dir: u8,
 }
 
-fn mic_block(fields: BlockFields, addr: DevAddr, count: u32, len: u8) -> [u8; 16]
+fn mic_block(fields: BlockFields, addr: DevAddr, count: u32, len: usize) -> [u8; 16]
     ensures { result ≡ mic_block fields.conf fields.rate fields.channel fields.dir addr count len }
 {
     let [conf_low, conf_high] = fields.conf.to_le_bytes();
@@ -33,26 +33,24 @@ fn mic_block(fields: BlockFields, addr: DevAddr, count: u32, len: u8) -> [u8; 16
     ]);
     block[6..10].copy_from_slice(&addr.to_wire());
     block[10..14].copy_from_slice(&count.to_le_bytes());
-    block[15] = len;
+    block[15] = (len % 256) as u8;
     block
 }
 
-// The CMAC of the block and the message.
+// The CMAC of the block and the message, from one that is begun.
 pub(crate) fn mac_of(
-    keys: &RoundKeys,
+    begun: Cmac<'_>,
     fields: BlockFields,
     addr: DevAddr,
     count: u32,
     message: &[u8],
 ) -> [u8; 16]
-    requires { length message.now ≤ 255 }
-    ensures { result ≡ mac keys.now
+    ensures { (key : List ℕ) → Holds key begun.entry [] → result ≡ mac key
         (mic_block fields.conf fields.rate fields.channel fields.dir addr count (length message.now)
         ++ message.now) }
 {
-    let block = mic_block(fields, addr, count, message.len() as u8);
-    let mut mac = Cmac::new(keys);
-    mac.update(&block);
+    let mut mac = begun;
+    mac.update(&mic_block(fields, addr, count, message.len()));
     mac.update(message);
     mac.finish()
 }
@@ -60,7 +58,6 @@ pub(crate) fn mac_of(
 // The two bytes of cmacF.
 #[tactic(auto, unfolding(crate::specs::Mics::f_half))]
 pub(crate) fn f_half(f: &[u8; 16], addr: DevAddr, count: u32, message: &[u8]) -> [u8; 2]
-    requires { length message.now ≤ 255 }
     ensures { result ≡ f_half f.now addr count message.now }
 {
     let fields = BlockFields {
@@ -69,7 +66,7 @@ pub(crate) fn f_half(f: &[u8; 16], addr: DevAddr, count: u32, message: &[u8]) ->
         channel: 0,
         dir: 0,
     };
-    let mac = mac_of(&RoundKeys::new(f), fields, addr, count, message);
+    let mac = mac_of(Cmac::new(&RoundKeys::new(f)), fields, addr, count, message);
     [mac[0], mac[1]]
 }
 
@@ -84,14 +81,13 @@ pub(crate) struct B1Fields {
 // The two bytes of cmacS.
 #[tactic(auto, unfolding(crate::specs::Mics::s_half))]
 pub(crate) fn s_half(
-    keys: &RoundKeys,
+    key: &CmacKey<'_>,
     addr: DevAddr,
     count: u32,
     sent: B1Fields,
     message: &[u8],
 ) -> [u8; 2]
-    requires { length message.now ≤ 255 }
-    ensures { result ≡ s_half keys.now addr count sent.conf sent.rate sent.channel message.now }
+    ensures { result ≡ s_half key.now addr count sent.conf sent.rate sent.channel message.now }
 {
     let fields = BlockFields {
         conf: sent.conf,
@@ -99,30 +95,32 @@ pub(crate) fn s_half(
         channel: sent.channel,
         dir: 0,
     };
-    let mac = mac_of(keys, fields, addr, count, message);
+    let mac = mac_of(key.begin(), fields, addr, count, message);
     [mac[0], mac[1]]
 }
 
-/// Whether the last two bytes of the frame are those of its F half under FNwkSIntKey, at this
-/// counter (LoRaWAN 1.1, 4.4).
+// All bytes but the last four, or none.
+fn without_mic(frame: &[u8]) -> &[u8]
+    ensures { result.now ≡ without_mic frame.now }
+{
+    &frame[..frame.len().saturating_sub(4)]
+}
+
+/// Whether the last two bytes of the frame's MIC are those of its F half under FNwkSIntKey, at this
+/// counter (LoRaWAN 1.1, 4.4). The message is `whole` but for its last four bytes, and empty where
+/// it has fewer; of a length above 255, which no frame of `read_data` has, the low byte counts.
 pub fn mic_f_ok(f: &[u8; 16], up: &DataUp<'_>, count: u32) -> bool
-    requires least { 4 ≤ length up.now.whole.now }
-    requires most { length up.now.whole.now ≤ 255 }
     ensures { IsTrue result ↔ HasFHalf f.now up.now count }
 {
-    let message = &up.whole[..up.whole.len() - 4];
-    let half = f_half(f, up.addr, count, message);
+    let half = f_half(f, up.addr, count, without_mic(up.whole));
     same_bytes(&up.mic[2..], &half)
 }
 
 // Whether the S half is that of the frame as it was sent.
-fn has_s_half(keys: &RoundKeys, up: &DataUp<'_>, count: u32, sent: B1Fields) -> bool
-    requires least { 4 ≤ length up.now.whole.now }
-    requires most { length up.now.whole.now ≤ 255 }
-    ensures { IsTrue result ↔ HasSHalf keys.now up.now count sent.conf sent.rate sent.channel }
+fn has_s_half(key: &CmacKey<'_>, up: &DataUp<'_>, count: u32, sent: B1Fields) -> bool
+    ensures { IsTrue result ↔ HasSHalf key.now up.now count sent.conf sent.rate sent.channel }
 {
-    let message = &up.whole[..up.whole.len() - 4];
-    let half = s_half(keys, up.addr, count, sent, message);
+    let half = s_half(key, up.addr, count, sent, without_mic(up.whole));
     same_bytes(&up.mic[..2], &half)
 }
 
@@ -134,19 +132,18 @@ fn is_enabled(channels: u8, channel: u8) -> bool
 }
 
 // Whether the channel is enabled, and the S half that of the frame on it.
-fn fits(keys: &RoundKeys, up: &DataUp<'_>, count: u32, channels: u8, sent: B1Fields) -> bool
-    requires channel { sent.channel < 8 }
-    requires least { 4 ≤ length up.now.whole.now }
-    requires most { length up.now.whole.now ≤ 255 }
+fn fits(key: &CmacKey<'_>, up: &DataUp<'_>, count: u32, channels: u8, sent: B1Fields) -> bool
+    requires { sent.channel < 8 }
     ensures { IsTrue result ↔ IsEnabled channels sent.channel
-        × HasSHalf keys.now up.now count sent.conf sent.rate sent.channel }
+        × HasSHalf key.now up.now count sent.conf sent.rate sent.channel }
 {
-    is_enabled(channels, sent.channel) && has_s_half(keys, up, count, sent)
+    is_enabled(channels, sent.channel) && has_s_half(key, up, count, sent)
 }
 
 /// The channel of an uplink: the least of the enabled ones, whose bits are set in `channels`, on
 /// which its MIC is that of this counter, ConfFCnt `conf` and TxDr `rate` (LoRaWAN 1.1, 4.4). None
-/// exactly where there is no such channel. The F half, in which no channel stands, is tried first.
+/// exactly where there is no such channel. The message is that of `mic_f_ok`. The F half, in which
+/// no channel stands, is tried first.
 pub fn mic_up_ok(
     keys: &SessionKeys,
     up: &DataUp<'_>,
@@ -155,15 +152,14 @@ pub fn mic_up_ok(
     rate: u8,
     channels: u8,
 ) -> Option<u8>
-    requires least { 4 ≤ length up.now.whole.now }
-    requires most { length up.now.whole.now ≤ 255 }
     ensures channel { IfSome result (λ k. IsChannel keys.now up.now count conf rate channels k) }
     ensures none { IfNone result ((k : ℕ) → ¬ Fits keys.now up.now count conf rate channels k) }
 {
     if !mic_f_ok(&keys.f, up, count) {
         return None;
     }
-    let s = RoundKeys::new(&keys.s);
+    let round_keys = RoundKeys::new(&keys.s);
+    let s = CmacKey::of(&round_keys);
     'channels: for channel in 0..8 {
         let sent = B1Fields {
             conf,

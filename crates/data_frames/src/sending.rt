@@ -8,7 +8,7 @@ ghost use Rattle.data_frames.specs.Mics.{up_mic};
 use crate::DownBytes;
 use crate::buffer::{Fields, message};
 use crate::mic::{B1Fields, f_half, s_half};
-use aes_cmac::RoundKeys;
+use aes_cmac::{CmacKey, RoundKeys};
 use wire_ids::{DevAddr, SessionKeys};
 
 /// What a device sends (LoRaWAN 1.1, 4.3).
@@ -80,7 +80,13 @@ pub fn up_bytes(keys: &SessionKeys, up: &UpParts<'_>) -> DownBytes
         rate: up.rate,
         channel: up.channel,
     };
-    let s = s_half(&RoundKeys::new(&keys.s), up.addr, up.count, last, message);
+    let s = s_half(
+        &CmacKey::of(&RoundKeys::new(&keys.s)),
+        up.addr,
+        up.count,
+        last,
+        message,
+    );
     let f = f_half(&keys.f, up.addr, up.count, message);
     frame.with_mic([s[0], s[1], f[0], f[1]])
 }

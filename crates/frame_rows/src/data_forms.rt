@@ -1,5 +1,3 @@
-ghost use Rattle.std.specs.Prelude.{◌≤◌, length};
-
 // The bytes and MICs were made by the CMAC of Python's `cryptography` (bench/frames.py).
 use data_frames::{
     DataUp, Down, DownBytes, UpParts, full_count, mic_f_ok, mic_up_ok, read_data, up_bytes,
@@ -74,10 +72,7 @@ fn expect_sent(rt: &impl Abort, frame: &[u8], up: &UpParts<'_>) {
     }
 }
 
-fn expect_channel(rt: &impl Abort, read: &DataUp<'_>, up: &UpParts<'_>)
-    requires least { 4 ≤ length read.now.whole.now }
-    requires most { length read.now.whole.now ≤ 255 }
-{
+fn expect_channel(rt: &impl Abort, read: &DataUp<'_>, up: &UpParts<'_>) {
     let keys = keys();
     let own = 1 << (up.channel % 8);
     for (count, conf, rate, channels, want) in [

@@ -3,6 +3,6 @@ use Rattle.aes_cmac.specs.Mac.{mac}
 use Rattle.data_frames.proofs.mic.mac_of.Goals as goal
 
 pub returns : goal.returns
-returns c =
-    c.finish.ensures _ _ (c.update-2.ensures _ _ (c.update.ensures _ _ c.new-mac.ensures))
-    ∙ ap (λ (block : List ℕ). mac c.args.keys.now (block ++ c.args.message.now)) c.mic_block-block.ensures
+returns c = λ key begun.
+    c.finish.ensures _ _ (c.update-2.ensures _ _ (c.update.ensures _ _ begun))
+    ∙ ap (λ (block : List ℕ). mac key (block ++ c.args.message.now)) c.mic_block.ensures

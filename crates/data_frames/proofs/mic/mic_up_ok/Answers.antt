@@ -1,4 +1,4 @@
-use Rattle.std.proofs.Common.{rules, IsTrue, ◌≡◌, inl, inr, arith, subst, sym}
+use Rattle.std.proofs.Common.{rules, IsTrue, ◌≡◌, inl, inr, arith, subst, sym, ◌∙◌}
 use Rattle.std.proofs.lemmas.Bool.{cases_lt}
 use Rattle.data_frames.proofs.Halves.{enabled_low, f_half_of, mic_of_halves, s_half_of}
 use Rattle.data_frames.specs.Mics.{Fits, HasFHalf, HasSHalf}
@@ -17,7 +17,7 @@ pub returns-then-fits-clause-channel : goal.returns-then-fits-clause-channel
 returns-then-fits-clause-channel c =
     let f : HasFHalf c.args.keys.now.f c.args.up.now c.args.count = c.mic_f_ok.ensures.0 c.if-not-mic_f_ok.false in
     let s = c.fits.ensures.0 c.if-fits.true in
-    let s_half = subst (λ key. HasSHalf key c.args.up.now c.args.count c.args.conf c.args.rate c.channels.channel) c.new-s.ensures s.1 in
+    let s_half = subst (λ key. HasSHalf key c.args.up.now c.args.count c.args.conf c.args.rate c.channels.channel) (c.of-s.ensures ∙ c.new-round_keys.ensures) s.1 in
     record {
       fits = (s.0, mic_of_halves c.args.keys.now c.args.up.now c.args.count c.args.conf c.args.rate c.channels.channel s_half f);
       least = λ k fits. elim (cases_lt k c.channels.channel) [
@@ -34,7 +34,7 @@ channels-preserved c = λ k low fits.
           let same : k ≡ c.channels.channel = omega (arith, low, high) in
           let here : Fits c.args.keys.now c.args.up.now c.args.count c.args.conf c.args.rate c.args.channels c.channels.channel = subst (Fits c.args.keys.now c.args.up.now c.args.count c.args.conf c.args.rate c.args.channels) same fits in
           let s = s_half_of c.args.keys.now c.args.up.now c.args.count c.args.conf c.args.rate c.channels.channel here.1 in
-          let s_half = subst (λ key. HasSHalf key c.args.up.now c.args.count c.args.conf c.args.rate c.channels.channel) (sym c.new-s.ensures) s in
+          let s_half = subst (λ key. HasSHalf key c.args.up.now c.args.count c.args.conf c.args.rate c.channels.channel) (sym (c.of-s.ensures ∙ c.new-round_keys.ensures)) s in
           let yes : IsTrue c.fits.result = c.fits.ensures.1 (here.0, s_half) in
           cc
     ]

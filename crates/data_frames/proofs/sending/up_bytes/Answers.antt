@@ -10,7 +10,7 @@ returns c =
     let keys = c.args.keys.now in
     let p = c.args.up.now in
     let message : List ℕ = up_message (parts_of p []) in
-    let s : c.s_half-s.result ≡ s_half keys.s p.addr p.count p.conf p.rate p.channel message = rw (c.new.ensures, c.as_slice-message.ensures.value, c.up_message-frame.ensures.text) at c.s_half-s.ensures in
+    let s : c.s_half-s.result ≡ s_half keys.s p.addr p.count p.conf p.rate p.channel message = rw (c.of.ensures, c.new.ensures, c.as_slice-message.ensures.value, c.up_message-frame.ensures.text) at c.s_half-s.ensures in
     let f : c.f_half-f.result ≡ f_half keys.f p.addr p.count message = rw (c.as_slice-message.ensures.value, c.up_message-frame.ensures.text) at c.f_half-f.ensures in
     let mic = four_of c.s_half-s.result c.f_half-f.result (search rules) (search rules)
     ∙ ap (λ (t : List ℕ). t ++ c.f_half-f.result) s ∙ ap (λ (t : List ℕ). s_half keys.s p.addr p.count p.conf p.rate p.channel message ++ t) f ∙ sym (sent_mic keys p) in

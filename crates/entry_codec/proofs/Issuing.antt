@@ -369,7 +369,7 @@ found-empty c places = λ i d there. found_at c.devices i d places there
         let was = name_at rows i d there in
         let within : i < length rows = slice_get_within rows i was.0 was.1 in
         let own : get_or rows i was.0 ≡ was.0 = get_or_from_slice_get rows i was.0 was.0 was.1 in
-        let place : position (λ (r : DeviceRow). r.dev_eui.0 == d.dev_eui.0) rows ≡ Some i = subst (λ (k : ℕ). position (λ (r : DeviceRow). r.dev_eui.0 == k) rows ≡ Some i) (ap (λ (r : DeviceRow). r.dev_eui.0) own ∙ was.2) (h i was.0 within) in
+        let place : position (λ (r : DeviceRow). r.dev_eui.0 == d.dev_eui.0) rows ≡ Some i = subst (λ (k : ℕ). position (λ (r : DeviceRow). r.dev_eui.0 == k) rows ≡ Some i) (ap (λ (r : DeviceRow). r.dev_eui.0) {y = was.0} own ∙ was.2) (h i was.0 within) in
         ap (λ (ns : List ℕ). position (is_number d.dev_eui.0) ns) (names-new c.desk.net_id rows) ∙ position-map (is_number d.dev_eui.0) row_number rows ∙ place
 
 pub join_nonces_once : JoinNoncesOnce

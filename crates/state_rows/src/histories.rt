@@ -54,17 +54,20 @@ fn tables(alloc: Global, own: &str, devices: u64) -> Result<Option<Tables>, Memo
     Ok(read_tables(alloc, text.as_bytes()).ok())
 }
 
-// The state of a desk with so many devices, all of them at home, when it has been opened.
-fn opened(alloc: Global, own: &str, devices: u64) -> Result<State, Fail> {
-    let tables = tables(alloc, own, devices)?.ok_or("tables")?;
-    let mut state = State::new(alloc, &tables)?;
-    let text = LongText::of_slice(alloc, b"")?.ok_or("text")?;
-    let first = enter(&mut state, 1000, Event::Tables(text))?;
-    let second = enter(&mut state, 1000, Event::Opened)?;
-    if first && second {
-        Ok(state)
-    } else {
-        Err("not opened")?
+// The state of these tables when the desk has been opened.
+fn first_state(alloc: Global, tables: &Tables) -> Result<State, Memory> {
+    let mut state = State::new(alloc, tables)?;
+    let text = LongText::of_slice(alloc, b"")?.ok_or(Memory)?;
+    enter(&mut state, 1000, Event::Tables(text))?;
+    enter(&mut state, 1000, Event::Opened)?;
+    Ok(state)
+}
+
+// The same of a desk with so many devices, all of them at home.
+fn opened(alloc: Global, own: &str, devices: u64) -> Result<State, Memory> {
+    match tables(alloc, own, devices)? {
+        None => Err(Memory),
+        Some(tables) => first_state(alloc, &tables),
     }
 }
 
@@ -270,27 +273,47 @@ fn own_net() -> NetId {
     NetId::from_be_bytes([0, 0, 0x13])
 }
 
+fn follow(rt: &impl Abort, alloc: Global, state: &mut State, steps: Steps) -> Result<(), Memory> {
+    for (step, fits, free) in steps {
+        assert_eq!(rt; take_step(alloc, state, 0, *step, b"a")?, *fits);
+        let next = state.free_address(own_net(), None, Moment(1000));
+        assert_eq!(rt; next, address_of(own_net(), *free));
+    }
+    Ok(())
+}
+
+// Whether the context of the only device is found by its address, where there is one.
+fn is_live(state: &State, context: Option<Seen>, pending: bool) -> bool {
+    match context {
+        None => true,
+        Some((addr, _, _)) => {
+            let holder = Holder::Device(0);
+            state.live_context(DevAddr(addr), Moment(1000)) == Some(LiveContext { holder, pending })
+        }
+    }
+}
+
+fn check_contexts(rt: &impl Abort, state: &State, active: Option<Seen>, pending: Option<Seen>) {
+    for device in state.devices() {
+        assert_eq!(rt; seen(&device.slots.active), active);
+        assert_eq!(rt; seen(&device.slots.pending), pending);
+    }
+    assert!(rt; is_live(state, active, false));
+    assert!(rt; is_live(state, pending, true));
+    assert!(rt;
+        state
+            .live_context(DevAddr(0x26000002), Moment(1000))
+            .is_none()
+    );
+}
+
 #[test]
 fn contexts_follow_joins_rejoins_and_uplinks(rt: HostRuntime) -> Result<(), Fail> {
     let alloc = rt.alloc();
     for (steps, active, pending) in HISTORIES {
         let mut state = opened(alloc, "000013", 1)?;
-        for (step, fits, free) in steps {
-            assert_eq!(rt; take_step(alloc, &mut state, 0, *step, b"a")?, *fits);
-            let next = state.free_address(own_net(), None, Moment(1000));
-            assert_eq!(rt; next, address_of(own_net(), *free));
-        }
-        let device = state.devices().get(0).ok_or("device")?;
-        assert_eq!(rt; seen(&device.slots.active), active);
-        assert_eq!(rt; seen(&device.slots.pending), pending);
-        for (slot, pending) in [(active, false), (pending, true)] {
-            if let Some((addr, _, _)) = slot {
-                let holder = Holder::Device(0);
-                let live = state.live_context(DevAddr(addr), Moment(1000));
-                assert_eq!(rt; live, Some(LiveContext { holder, pending }));
-            }
-        }
-        assert_eq!(rt; state.live_context(DevAddr(0x26000002), Moment(1000)), None);
+        follow(&rt, alloc, &mut state, steps)?;
+        check_contexts(&rt, &state, active, pending);
     }
     Ok(())
 }

@@ -1,0 +1,5 @@
+mod Sets
+mod Sessions
+mod Lapsing
+mod JoinFrames
+mod Causes

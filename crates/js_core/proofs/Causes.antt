@@ -48,7 +48,7 @@ success_is c nwk app m activation head request up number row kept is_up is_found
 -- a request that is accepted, with its members and its step
 pub accepted_said : (c : Config) (nwk app : ℕ → List ℕ) (m : Machine) (activation : Activation) (head : Head) (request : JoinRequest) (up : JoinUp) (number : ℕ) (row : DeviceRow) (step : JoinStep) (members : JoinAnswer)
     → first_rule (join_rules c nwk m activation head request) ≡ None → join_up_of request.phy_payload ≡ Some up
-    → (kept : Device) × (found_of c m request.dev_eui ≡ Some (record { device = number; row = row; kept = kept })) × (is_spent kept ≡ false) × (step ≡ step_of (nwk number) request.phy_payload up row kept)
+    → (kept : Device) × (found_of c m request.dev_eui ≡ Some (record { device = number; row = row; kept = kept })) × (is_spent kept ≡ false) × (step ≡ step_of (nwk number) request.phy_payload up kept)
     → members ≡ join_members c (nwk number) (app number) activation head request up row step.seed
     → (let d : JsDecision = decision.Accept (Headed head (outcome_of activation members)) (change_of number step) in
     d ≡ by_rules (refuses head) (join_rules c nwk m activation head request) (join_success c nwk app m activation head request))

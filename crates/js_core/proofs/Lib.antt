@@ -3,3 +3,7 @@ mod Sessions
 mod Lapsing
 mod JoinFrames
 mod Causes
+mod Order
+mod Cases
+mod Changes
+mod Agreeing

@@ -149,7 +149,7 @@ join_members c nwk app activation head request up row seed = record {
 
 abbrev pub accepted : Config → (ℕ → List ℕ) → (ℕ → List ℕ) → Activation → Head → JoinRequest → JoinUp → Found → JsDecision
 accepted c nwk app activation head request up f =
-    let s = step.step_of (nwk f.device) request.phy_payload up f.row f.kept in
+    let s = step.step_of (nwk f.device) request.phy_payload up f.kept in
     decision.Accept (Headed head (outcome_of activation (join_members c (nwk f.device) (app f.device) activation head request up f.row s.seed))) (step.change_of f.device s)
 
 -- where no rule holds, there are a frame and a device with a next JoinNonce

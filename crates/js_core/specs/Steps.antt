@@ -12,6 +12,7 @@ use Rattle.entries.specs.declared.change.Change.{Change}
 use Rattle.entries.specs.declared.change.Change.TheVariants as change
 use Rattle.entries.specs.declared.used_seed.UsedSeed.{UsedSeed}
 use Rattle.entries.specs.declared.used_seed.UsedSeed.TheVariants as used
+use Rattle.entry_codec.specs.Devices.{seed_of}
 use Rattle.entry_codec.specs.declared.device.Device.{Device}
 use Rattle.entry_codec.specs.declared.device.KeptSeed.{KeptSeed}
 use Rattle.js_core.specs.declared.step.JoinStep.{JoinStep}
@@ -77,12 +78,12 @@ used_seed_at place (Rejoin1 join_eui dev_eui count mic) = Some used.Rejoin1
 abbrev pub used_seed : List ℕ → List ℕ → JoinUp → Device → Option UsedSeed
 used_seed nwk frame up kept = used_seed_at (seed_place nwk frame kept) up
 
--- the seed of the new session: the JoinNonce after the last one, and the request's counter
-abbrev pub next_seed : JoinUp → DeviceRow → Device → Seed
-next_seed up row kept = record { nonce = kept.join_nonce + 1; join_eui = row.join_eui; counter = counter_of up }
+-- the seed of the new session: the JoinNonce after the last one, the device's JoinEUI and the request's counter
+abbrev pub next_seed : JoinUp → Device → Seed
+next_seed up kept = seed_of (counter_of up) (kept.join_nonce + 1) kept
 
-abbrev pub step_of : List ℕ → List ℕ → JoinUp → DeviceRow → Device → JoinStep
-step_of nwk frame up row kept = record { used = used_seed nwk frame up kept; seed = next_seed up row kept }
+abbrev pub step_of : List ℕ → List ℕ → JoinUp → Device → JoinStep
+step_of nwk frame up kept = record { used = used_seed nwk frame up kept; seed = next_seed up kept }
 
 abbrev pub change_by : Option UsedSeed → ℕ → Seed → Change
 change_by None device seed = change.Join (record { device = device; counter = seed.counter; join_nonce = seed.nonce; own = None })

@@ -67,7 +67,7 @@ pub(crate) fn join_target<'a, E: BlockFn, D: BlockFn>(
         × (found_of tables.now state.now.now request.now.dev_eui
         ≡ Some (record { device = t.number; row = t.row.now; kept = kept }))
         × (is_spent kept ≡ false) × (t.step ≡ step_of (nwk_at vault.now t.number)
-        request.now.phy_payload t.up t.row.now kept)) }
+        request.now.phy_payload t.up kept)) }
 {
     let frame = request.phy_payload.as_slice();
     if wrong_size(frame) {
@@ -94,7 +94,7 @@ pub(crate) fn join_target<'a, E: BlockFn, D: BlockFn>(
     if low_counter(&place, &up, device.kept) {
         return Err(Refusal::Counter);
     }
-    let Some(seed) = next_seed(&up, device.row, device.kept) else {
+    let Some(seed) = next_seed(&up, device.kept) else {
         return Err(Refusal::Spent);
     };
     let used = used_seed(&place, &up);

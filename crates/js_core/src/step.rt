@@ -189,14 +189,14 @@ pub(crate) fn low_counter(place: &Option<SeedPlace>, up: &JoinUp, kept: &Device)
 // ---- what it gives
 
 /// The seed of the new session, and None exactly where the last JoinNonce was given out.
-pub(crate) fn next_seed(up: &JoinUp, row: &DeviceRow, kept: &Device) -> Option<Seed>
+pub(crate) fn next_seed(up: &JoinUp, kept: &Device) -> Option<Seed>
     ensures { MatchOption result (is_spent kept.now ≡ true)
-        (λ s. (is_spent kept.now ≡ false) × (s ≡ next_seed up.now row.now kept.now)) }
+        (λ s. (is_spent kept.now ≡ false) × (s ≡ next_seed up.now kept.now)) }
 {
     let nonce = Nonce24::new(kept.join_nonce.get() + 1)?;
     Some(Seed {
         nonce,
-        join_eui: row.join_eui,
+        join_eui: kept.join_eui,
         counter: counter(up),
     })
 }

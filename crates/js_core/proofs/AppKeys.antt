@@ -1,41 +1,42 @@
 -- The AppKey of a device reaches only answers to those who are entitled to its AppSKey.
 use mathlib.Core.Path.{fun_ext}
 use Rattle.std.proofs.Common.{◌≡◌, ◌≢◌, ℕ, zero, suc, ◌==◌, Bool, true, false, List, [], ◌∷◌, map, Option, Some, None, option_map, slice_get, refl, sym, subst, ap, ◌∙◌, inl, inr, eqb-true, eq-eqb}
-use Rattle.std.specs.List.{AllZip, list_any}
+use Rattle.std.specs.List.{list_any}
 use Rattle.std.proofs.lemmas.Bool.{cases_Bool, false≢true}
 use Rattle.wire_ids.specs.Lists.{changed}
 use Rattle.wire_ids.proofs.Lists.{changed-cons}
+use Rattle.wire_ids.specs.declared.decision.Decision.TheVariants as decision
 use Rattle.wire_ids.specs.declared.keys.RootKeys.{RootKeys}
 use Rattle.wire_ids.specs.declared.keys.Seed.{Seed}
 use Rattle.key_vault.specs.Keys.{app_session_key, network_keys}
 use Rattle.key_vault.specs.Table.{app_at, nwk_at}
 use Rattle.join_frames.specs.Accepts.{accept_text}
+use Rattle.join_frames.specs.declared.join_up.JoinUp.{JoinUp}
 use Rattle.agreements.specs.Walk.{Config}
-use Rattle.agreements.specs.LookUps.{device_place, keys_of}
+use Rattle.agreements.specs.LookUps.{keys_of}
 use Rattle.agreements.specs.declared.rows.ApplicationRow.{ApplicationRow}
 use Rattle.agreements.specs.declared.rows.DeviceRow.{DeviceRow}
 use Rattle.backend_json.specs.declared.answer.Answer.{Answer}
 use Rattle.backend_json.specs.declared.answer.Answer.TheVariants.{Headed}
 use Rattle.backend_json.specs.declared.answer.AnswerKeys.{AnswerKeys}
 use Rattle.backend_json.specs.declared.answer.KeyEnvelope.{KeyEnvelope}
-use Rattle.backend_json.specs.declared.answer.Outcome.TheVariants.{AppSKeyAns, JoinAns}
+use Rattle.backend_json.specs.declared.answer.Outcome.TheVariants.{AppSKeyAns}
 use Rattle.backend_json.specs.declared.head.Head.{Head}
 use Rattle.backend_json.specs.declared.request.AppSKeyRequest.{AppSKeyRequest}
 use Rattle.backend_json.specs.declared.request.JoinRequest.{JoinRequest}
+use Rattle.backend_json.specs.declared.request.Request.{Request}
 use Rattle.entitlement.specs.Keys.{Entry}
 use Rattle.entitlement.specs.declared.roles.AnswerKind.TheVariants as answer
-use Rattle.js_core.specs.declared.decision.AcceptedJoin.{AcceptedJoin}
-use Rattle.js_core.specs.declared.decision.Decision.{Decision}
-use Rattle.js_core.specs.declared.decision.Decision.TheVariants as decision
-use Rattle.js_core.specs.declared.kept.KeptDevice.{KeptDevice}
-use Rattle.js_core.specs.AppKey.{AnswersAlike, AppKeyStays, is_entitled, keys_without, row_with_app_key, with_app_key, without_aes_key, without_key}
-use Rattle.js_core.specs.Machine.{Machine, new_device, with_join}
+use Rattle.entry_codec.specs.Machine.{Machine}
+use Rattle.entry_codec.specs.declared.device.KeptSeed.{KeptSeed}
+use Rattle.js_core.specs.declared.activation.Activation.{Activation}
+use Rattle.js_core.specs.declared.activation.Activation.TheVariants as by
+use Rattle.js_core.specs.AppKey.{AnswersAlike, AppKeyStays, DecisionsAlike, is_entitled, keys_without, row_with_app_key, with_app_key, without_aes_key, without_key}
+use Rattle.js_core.specs.Found.{Found}
 use Rattle.js_core.specs.Parties.{application_named}
-use Rattle.js_core.specs.Replies.{accept_of, answer_keys, app_s_key_answer, entries_for, for_application, for_network, is_app_s_key, is_f_nwk_s_int_key, is_nwk_s_enc_key, is_s_nwk_s_int_key, join_answer, next_seed, sealed_by, where_set}
-use Rattle.js_core.specs.Runs.{answers, joins_in, state_after_all}
-use Rattle.js_core.specs.Step.{after, answer_in, decided, fresh, state_after}
-use Rattle.js_core.proofs.Cases.{HoldsInCases, by_cases, found_row}
-use Rattle.js_core.proofs.Changes.{map-changed}
+use Rattle.js_core.specs.Replies.{JsDecision, accept_of, answer_keys, answer_kind, app_s_key_answer, entries_for, for_application, for_network, is_app_s_key, is_f_nwk_s_int_key, is_nwk_s_enc_key, is_s_nwk_s_int_key, join_members, js_decided, outcome_of, sealed_by, where_set}
+use Rattle.js_core.specs.Steps.{next_seed}
+use Rattle.js_core.proofs.Cases.{HoldsInCases, IsAsked, IsJoin, by_cases, found_row, stands_at}
 use Rattle.js_core.proofs.Unread.{SameBare, same_bare, unread}
 
 -- ---- the root keys of two tables that differ in one AppKey
@@ -64,7 +65,7 @@ app_with zero key (row ∷ rows) (suc i) other = refl
 app_with (suc d) key (row ∷ rows) zero other = ap (λ (ks : List RootKeys). app_at ks zero) (sym (cons_with d key row rows))
 app_with (suc d) key (row ∷ rows) (suc i) other = app_with d key rows i (λ e. other (ap suc e)) ∙ ap (λ (ks : List RootKeys). app_at ks (suc i)) (sym (cons_with d key row rows))
 
-keys_with : (d : ℕ) (key : List ℕ) (c : Config) → KeysAlike d (map keys_of c.devices) (map keys_of (with_app_key d key c).devices)
+pub keys_with : (d : ℕ) (key : List ℕ) (c : Config) → KeysAlike d (map keys_of c.devices) (map keys_of (with_app_key d key c).devices)
 unfolding with_app_key
 keys_with d key c = record { nwk = fun_ext (nwk_with d key c.devices); app = app_with d key c.devices }
 
@@ -121,107 +122,65 @@ made_alike c d at row seed entries made nwk nwk' app app' is same differ =
       rest = is.keeps nwk _ _ (same_rest c row seed entries nwk app app');
     })
 
--- ---- the two kinds of answers with keys
+-- ---- the kinds of answers with keys
 
-abbrev join_made : Config → Head → JoinRequest → DeviceRow → Seed → Made
-join_made c head request row seed nwk keys = Headed head (JoinAns (record {
-  phy_payload = accept_text nwk (accept_of request row seed);
+abbrev join_made : Config → Activation → Head → JoinRequest → JoinUp → DeviceRow → Seed → Made
+join_made c activation head request up row seed nwk keys = Headed head (outcome_of activation (record {
+  phy_payload = accept_text nwk (accept_of up request row seed);
   lifetime = c.desk.lifetime_s;
   keys = keys;
   session_key_id = record { dev_eui = row.dev_eui; join_nonce = seed.nonce };
 }))
 
-join_is_made : (c : Config) (head : Head) (request : JoinRequest) (at : ℕ) (row : DeviceRow) (seed : Seed) → slice_get c.devices at ≡ Some row
-    → IsMade c at (entries_for row head.sender answer.JoinAns c.desk.lifetime_s) (join_made c head request row seed)
-join_is_made c head request at row seed is = record {
-  keeps = λ nwk keys keys' same. ap (λ (k : AnswerKeys). join_made c head request row seed nwk k) same;
+join_is_made : (c : Config) (activation : Activation) (head : Head) (request : JoinRequest) (up : JoinUp) (at : ℕ) (row : DeviceRow) (seed : Seed) → slice_get c.devices at ≡ Some row
+    → IsMade c at (entries_for row head.sender (answer_kind activation) c.desk.lifetime_s) (join_made c activation head request up row seed)
+join_is_made c by.Join head request up at row seed is = record {
+  keeps = λ nwk keys keys' same. ap (λ (k : AnswerKeys). join_made c by.Join head request up row seed nwk k) same;
+  entitles = λ nwk keys. rw (is, eq-eqb row.dev_eui.0 row.dev_eui.0 refl) refl;
+}
+join_is_made c by.Rejoin head request up at row seed is = record {
+  keeps = λ nwk keys keys' same. ap (λ (k : AnswerKeys). join_made c by.Rejoin head request up row seed nwk k) same;
   entitles = λ nwk keys. rw (is, eq-eqb row.dev_eui.0 row.dev_eui.0 refl) refl;
 }
 
 abbrev app_s_key_made : Head → AppSKeyRequest → Made
 app_s_key_made head request nwk keys = Headed head (AppSKeyAns (record { dev_eui = request.dev_eui; app_s_key = keys.app_s_key; session_key_id = request.session_key_id }))
 
-app_s_key_is_made : (c : Config) (head : Head) (request : AppSKeyRequest) (at : ℕ) (row : DeviceRow) → device_place request.dev_eui c.devices ≡ Some at → slice_get c.devices at ≡ Some row
+app_s_key_is_made : (c : Config) (head : Head) (request : AppSKeyRequest) (at : ℕ) (row : DeviceRow) → (row.dev_eui.0 == request.dev_eui.0) ≡ true → slice_get c.devices at ≡ Some row
     → IsMade c at (entries_for row head.sender answer.AppSKeyAns 0) (app_s_key_made head request)
-app_s_key_is_made c head request at row place is = record {
+app_s_key_is_made c head request at row same is = record {
   keeps = λ nwk keys keys' same. ap (λ (k : AnswerKeys). app_s_key_made head request nwk k) same;
-  entitles = λ nwk keys. rw (is, found_row request.dev_eui c.devices at row place is) refl;
+  entitles = λ nwk keys. rw (is, same) refl;
 }
 
--- ---- a line, under two tables of root keys
+-- ---- a request, under two tables of root keys
 
-pub record DecisionsAlike (c : Config) (d : ℕ) (left right : Decision) : Type 0 where
-  pub joins : joins_in left ≡ joins_in right
-  pub replies : AnswersAlike c d (answer_in left) (answer_in right)
+same_alike : (c : Config) (d : ℕ) (left : Answer) → AnswersAlike c d left left
+same_alike c d left = record { others = λ none. refl; rest = refl }
 
-same_alike : (c : Config) (d : ℕ) (decision : Decision) → DecisionsAlike c d decision decision
-same_alike c d decision = record { joins = refl; replies = record { others = λ none. refl; rest = refl } }
-
-cases_alike : (c : Config) (d : ℕ) (keys keys' : List RootKeys) (m : Machine) → KeysAlike d keys keys' → HoldsInCases c (nwk_at keys) (app_at keys) (app_at keys') m (DecisionsAlike c d)
-unfolding join_answer app_s_key_answer answer_keys
-cases_alike c d keys keys' m same = record {
-  headless = same_alike c d _;
-  refusal = λ head why. same_alike c d _;
-  join = λ head request frame at row kept is. record {
-    joins = refl;
-    replies = made_alike c d at row (next_seed frame row kept) _ (join_made c head request row (next_seed frame row kept)) _ _ _ _ (join_is_made c head request at row (next_seed frame row kept) is.is_row) refl (same.app at);
-  };
-  app_s_key = λ head request at row kept seed is. record {
-    joins = refl;
-    replies = made_alike c d at row seed.seed _ (app_s_key_made head request) (nwk_at keys at) (nwk_at keys at) _ _ (app_s_key_is_made c head request at row is.is_place is.is_row) refl (same.app at);
-  };
+cases_alike : (c : Config) (d : ℕ) (keys keys' : List RootKeys) (m : Machine) (head : Head) → KeysAlike d keys keys' → HoldsInCases c (nwk_at keys) (app_at keys) (app_at keys') m head (DecisionsAlike c d)
+unfolding join_members app_s_key_answer answer_keys
+cases_alike c d keys keys' m head same = record {
+  refusal = λ why. same_alike c d _;
+  join = λ activation request up f is. (
+    made_alike c d f.device f.row (next_seed up f.kept) _ (join_made c activation head request up f.row (next_seed up f.kept)) _ _ _ _
+        (join_is_made c activation head request up f.device f.row (next_seed up f.kept) (stands_at c m request.dev_eui f is.is_found).is_row) refl (same.app f.device),
+    refl,
+  );
+  app_s_key = λ request f seed is.
+      let at = stands_at c m request.dev_eui f is.is_found in
+      made_alike c d f.device f.row seed.seed _ (app_s_key_made head request) (nwk_at keys f.device) (nwk_at keys f.device) _ _
+      (app_s_key_is_made c head request f.device f.row (found_row request.dev_eui c.devices f.device f.row at.is_place at.is_row) at.is_row) refl (same.app f.device);
+  home_ns = λ f. same_alike c d _;
 }
-
--- what is kept of a line is the join that it accepts
-after_joins : List AcceptedJoin → Machine → Machine
-after_joins [] m = m
-after_joins (join ∷ joins) m = with_join join.device join.seed m
-
-after_is : (decision : Decision) (m : Machine) → after decision m ≡ after_joins (joins_in decision) m
-unfolding after_joins
-after_is (decision.Reply answer) m = refl
-after_is (decision.Accept answer join) m = refl
-
-after_alike : (left right : Decision) (m : Machine) → joins_in left ≡ joins_in right → after left m ≡ after right m
-after_alike left right m same = after_is left m ∙ (ap (λ (js : List AcceptedJoin). after_joins js m) same ∙ sym (after_is right m))
-
--- ---- runs
 
 -- over two tables that are the same but for AppKeys, and two tables of root keys that differ in the AppKey of row d
-pub line_alike : (d : ℕ) (c c' : Config) (keys keys' : List RootKeys) → SameBare c c' → KeysAlike d keys keys' → (m : Machine) (line : List ℕ)
-    → DecisionsAlike c d (decided c keys m line) (decided c' keys' m line)
-line_alike d c c' keys keys' same alike m line =
-    subst (λ (x : Decision). DecisionsAlike c d (decided c keys m line) x) (unread c c' same keys' m line)
-    (by_cases c keys keys' m (DecisionsAlike c d) (cases_alike c d keys keys' m alike) alike.nwk line)
-
-pub step_alike : (d : ℕ) (key : List ℕ) (c : Config) (m : Machine) (line : List ℕ)
-    → DecisionsAlike c d (decided c (map keys_of c.devices) m line) (decided (with_app_key d key c) (map keys_of (with_app_key d key c).devices) m line)
-step_alike d key c m line = line_alike d c (with_app_key d key c) _ _ (same_bare d key c) (keys_with d key c) m line
-
-next_alike : (d : ℕ) (key : List ℕ) (c : Config) (m : Machine) (line : List ℕ)
-    → state_after c (map keys_of c.devices) m line ≡ state_after (with_app_key d key c) (map keys_of (with_app_key d key c).devices) m line
-unfolding state_after
-next_alike d key c m line = after_alike _ _ m (step_alike d key c m line).joins
-
-pub record AlikeFrom (d : ℕ) (key : List ℕ) (c : Config) (m m' : Machine) (lines : List (List ℕ)) : Type 0 where
-  pub states : state_after_all c (map keys_of c.devices) m lines ≡ state_after_all (with_app_key d key c) (map keys_of (with_app_key d key c).devices) m' lines
-  pub replies : AllZip (AnswersAlike c d) (answers c (map keys_of c.devices) m lines) (answers (with_app_key d key c) (map keys_of (with_app_key d key c).devices) m' lines)
-
-run_alike : (d : ℕ) (key : List ℕ) (c : Config) (lines : List (List ℕ)) (m : Machine) → AlikeFrom d key c m m lines
-run_alike d key c [] m = record { states = refl; replies = tt }
-run_alike d key c (line ∷ lines) m =
-    let next = state_after c (map keys_of c.devices) m line in
-    let later = subst (λ (m' : Machine). AlikeFrom d key c next m' lines) (next_alike d key c m line) (run_alike d key c lines next) in
-    record { states = later.states; replies = ((step_alike d key c m line).replies, later.replies) }
-
-abbrev machine_of : List KeptDevice → Machine
-machine_of devices = record { devices = devices }
-
-pub fresh_alike : (d : ℕ) (key : List ℕ) (c : Config) → fresh c ≡ fresh (with_app_key d key c)
-unfolding fresh with_app_key
-fresh_alike d key c = ap machine_of (sym (map-changed (λ (r : DeviceRow). new_device) d (row_with_app_key key) (λ row. refl) c.devices))
+pub request_alike : (d : ℕ) (c c' : Config) (keys keys' : List RootKeys) → SameBare c c' → KeysAlike d keys keys' → (m : Machine) (head : Head) (request : Request)
+    → DecisionsAlike c d (js_decided c (nwk_at keys) (app_at keys) m head request) (js_decided c' (nwk_at keys') (app_at keys') m head request)
+request_alike d c c' keys keys' same alike m head request =
+    subst (λ (x : JsDecision). DecisionsAlike c d (js_decided c (nwk_at keys) (app_at keys) m head request) x) (unread c c' same (nwk_at keys') (app_at keys') m head request)
+    (subst (λ (nwk : ℕ → List ℕ). DecisionsAlike c d (js_decided c (nwk_at keys) (app_at keys) m head request) (js_decided c nwk (app_at keys') m head request)) alike.nwk
+    (by_cases c (nwk_at keys) (app_at keys) (app_at keys') m head (DecisionsAlike c d) (cases_alike c d keys keys' m head alike) request))
 
 pub app_key_stays : AppKeyStays
-app_key_stays c d key lines =
-    let both = subst (λ (m : Machine). AlikeFrom d key c (fresh c) m lines) (fresh_alike d key c) (run_alike d key c lines (fresh c)) in
-    record { states = both.states; replies = both.replies }
+app_key_stays c d key m head request = request_alike d c (with_app_key d key c) _ _ (same_bare d key c) (keys_with d key c) m head request

@@ -1,42 +1,69 @@
--- A line comes to a refusal, to a join that is accepted, or to an application's key; and to the same one under all root keys with these NwkKeys.
-use Rattle.std.proofs.Common.{◌≡◌, ℕ, ◌==◌, Bool, true, false, cond, not, List, Option, Some, None, Result, Ok, Err, slice_get, refl, sym, subst, ap, ◌∙◌}
+-- A request comes to a refusal, to a join that is accepted, to an application's key or to a home; and to the same one under all root
+-- keys with these NwkKeys.
+use Rattle.std.proofs.Common.{◌≡◌, ℕ, ◌==◌, Bool, true, false, cond, not, List, Option, Some, None, slice_get, refl, sym, ap, ◌∙◌, subst, eqb-true}
 use Rattle.std.proofs.lemmas.List.Quantifiers.{position-Some}
 use Rattle.std.proofs.lemmas.Option.{get_or_from_slice_get}
-use Rattle.wire_ids.specs.Lists.{at_place, holds_of}
-use Rattle.wire_ids.specs.Rules.{first_rule}
+use Rattle.wire_ids.specs.Rules.{Rule, first_rule}
 use Rattle.wire_ids.proofs.Decisions.{none_holds}
+use Rattle.wire_ids.specs.declared.decision.Decision.TheVariants as decision
 use Rattle.wire_ids.specs.declared.eui.Eui.{Eui}
-use Rattle.wire_ids.specs.declared.keys.RootKeys.{RootKeys}
-use Rattle.key_vault.specs.Table.{app_at, nwk_at}
 use Rattle.agreements.specs.Walk.{Config}
 use Rattle.agreements.specs.LookUps.{device_place}
 use Rattle.agreements.specs.declared.rows.DeviceRow.{DeviceRow}
-use Rattle.backend_json.specs.Messages.{message_of}
-use Rattle.backend_json.specs.declared.answer.Answer.TheVariants.{Headless}
+use Rattle.backend_json.specs.declared.answer.Answer.TheVariants.{Headed}
+use Rattle.backend_json.specs.declared.answer.Outcome.TheVariants.{HomeNSAns}
 use Rattle.backend_json.specs.declared.head.Head.{Head}
-use Rattle.backend_json.specs.declared.message.Bad.{Bad}
-use Rattle.backend_json.specs.declared.message.Bad.TheVariants as bad
-use Rattle.backend_json.specs.declared.message.Message.{Message}
 use Rattle.backend_json.specs.declared.refusal.Refusal.{Refusal}
 use Rattle.backend_json.specs.declared.refusal.Refusal.TheVariants as cause
 use Rattle.backend_json.specs.declared.request.AppSKeyRequest.{AppSKeyRequest}
 use Rattle.backend_json.specs.declared.request.JoinRequest.{JoinRequest}
 use Rattle.backend_json.specs.declared.request.Request.{Request}
-use Rattle.backend_json.specs.declared.request.Request.TheVariants.{AppSKeyReq, JoinReq, Unknown}
-use Rattle.js_core.specs.declared.decision.Decision.{Decision}
-use Rattle.js_core.specs.declared.decision.Decision.TheVariants as decision
-use Rattle.js_core.specs.declared.frames.JoinFrame.{JoinFrame}
-use Rattle.js_core.specs.declared.kept.KeptDevice.{KeptDevice}
-use Rattle.js_core.specs.declared.kept.KeptSeed.{KeptSeed}
-use Rattle.js_core.specs.Machine.{Machine}
-use Rattle.js_core.specs.Replies.{accepted, app_s_key_reply, app_s_key_success, app_s_key_success_at, app_s_key_success_with, bad_answer, bad_member, by_cause, decision_of, decision_on, join_success, join_success_at, next_seed, refused, seed_with}
-use Rattle.js_core.specs.Parties.{is_known}
-use Rattle.js_core.specs.Rules.{wrong_session, app_s_key_rules, is_not_above, is_spent, join_rules, low_counter, unknown_rules}
-use Rattle.js_core.specs.Step.{decided}
+use Rattle.backend_json.specs.declared.request.Request.TheVariants.{AppSKeyReq, HomeNSReq, JoinReq, RejoinReq, Unknown}
+use Rattle.entry_codec.specs.Machine.{Machine}
+use Rattle.entry_codec.specs.declared.device.Device.{Device}
+use Rattle.entry_codec.specs.declared.device.KeptSeed.{KeptSeed}
+use Rattle.join_frames.specs.declared.join_up.JoinUp.{JoinUp}
+use Rattle.js_core.specs.declared.activation.Activation.{Activation}
+use Rattle.js_core.specs.declared.activation.Activation.TheVariants as by
+use Rattle.js_core.specs.Found.{Found, found_at, found_of, found_with}
+use Rattle.js_core.specs.Frames.{join_up_of}
+use Rattle.js_core.specs.Parties.{is_net}
+use Rattle.js_core.specs.Replies.{JsDecision, accepted, app_s_key_reply, app_s_key_success_at, app_s_key_success_with, home_ns_success_at, join_success, join_success_at, js_decided, refuses, seed_with, success_of}
+use Rattle.js_core.specs.Rules.{app_s_key_rules_at, by_rules, home_ns_rules_at, is_no_session, join_rules, rules_of, unknown_rules, wrong_home}
+use Rattle.js_core.specs.Rules as rule
+use Rattle.js_core.specs.Steps as step
+use Rattle.js_core.proofs.Causes.{first_said, none_said}
 
-known_of : (b : Bool) → not b ≡ false → b ≡ true
-known_of true h = refl
-known_of false h = absurd cc
+-- ---- what is found
+
+-- where a device stands in the tables and in the state
+pub record StandsAt (c : Config) (m : Machine) (dev : Eui) (f : Found) : Type 0 where
+  pub is_place : device_place dev c.devices ≡ Some f.device
+  pub is_row : slice_get c.devices f.device ≡ Some f.row
+  pub is_kept : slice_get m.devices f.device ≡ Some f.kept
+
+with_found : (device : ℕ) (row : Option DeviceRow) (kept : Option Device) (f : Found) → found_with device row kept ≡ Some f → (device ≡ f.device) × (row ≡ Some f.row) × (kept ≡ Some f.kept)
+with_found device None kept f e = absurd cc
+with_found device (Some row) None f e = absurd cc
+with_found device (Some row) (Some kept) f e = let same : record { device = device; row = row; kept = kept } ≡ f = cc in (ap (λ (g : Found). g.device) same, ap (λ (g : Found). Some g.row) same, ap (λ (g : Found). Some g.kept) same)
+
+at_found : (c : Config) (m : Machine) (dev : Eui) (place : Option ℕ) (f : Found) → device_place dev c.devices ≡ place → found_at c m place ≡ Some f → StandsAt c m dev f
+at_found c m dev None f is e = absurd cc
+at_found c m dev (Some device) f is e =
+    let both = with_found device (slice_get c.devices device) (slice_get m.devices device) f e in
+    record {
+      is_place = is ∙ ap (λ (n : ℕ). let o : Option ℕ = Some n in o) both.0;
+      is_row = subst (λ (n : ℕ). slice_get c.devices n ≡ Some f.row) both.0 both.1;
+      is_kept = subst (λ (n : ℕ). slice_get m.devices n ≡ Some f.kept) both.0 both.2;
+    }
+
+pub stands_at : (c : Config) (m : Machine) (dev : Eui) (f : Found) → found_of c m dev ≡ Some f → StandsAt c m dev f
+unfolding found_of
+stands_at c m dev f e = at_found c m dev (device_place dev c.devices) f refl e
+
+pub found_there : (c : Config) (m : Machine) (dev : Eui) (f : Found) → StandsAt c m dev f → found_of c m dev ≡ Some f
+unfolding found_of
+found_there c m dev f is = rw (is.is_place, is.is_row, is.is_kept) refl
 
 -- the row that is found has the DevEUI
 pub found_row : (dev : Eui) (rows : List DeviceRow) (at : ℕ) (row : DeviceRow) → device_place dev rows ≡ Some at → slice_get rows at ≡ Some row → (row.dev_eui.0 == dev.0) ≡ true
@@ -44,114 +71,118 @@ found_row dev rows at row place is =
     ap (λ (r : DeviceRow). r.dev_eui.0 == dev.0) (sym (get_or_from_slice_get rows at row row is))
     ∙ (position-Some (λ (r : DeviceRow). r.dev_eui.0 == dev.0) rows at row place).1
 
--- a join that no rule refuses, and what it finds
-pub record IsJoin (c : Config) (m : Machine) (head : Head) (request : JoinRequest) (frame : JoinFrame) (at : ℕ) (row : DeviceRow) (kept : KeptDevice) : Type 0 where
-  pub is_place : device_place request.dev_eui c.devices ≡ Some at
-  pub is_row : slice_get c.devices at ≡ Some row
-  pub is_kept : slice_get m.devices at ≡ Some kept
-  pub known : is_known c head.sender ≡ true
-  pub above : is_not_above frame.dev_nonce kept.last_dev_nonce ≡ false
-  pub unspent : is_spent kept ≡ false
+abbrev eui : ℕ → Eui
+eui n = record { 0 = n }
+
+pub same_eui : (a b : Eui) → a.0 ≡ b.0 → a ≡ b
+same_eui a b e = ap eui e
+
+pub found_name : (c : Config) (m : Machine) (dev : Eui) (f : Found) → StandsAt c m dev f → f.row.dev_eui ≡ dev
+found_name c m dev f is = same_eui _ _ (eqb-true _ _ (found_row dev c.devices f.device f.row is.is_place is.is_row))
+
+-- ---- the cases
+
+-- a join- or rejoin-request that no rule refuses, and what it finds
+pub record IsJoin (c : Config) (nwk : ℕ → List ℕ) (m : Machine) (activation : Activation) (head : Head) (request : JoinRequest) (up : JoinUp) (f : Found) : Type 0 where
+  pub is_up : join_up_of request.phy_payload ≡ Some up
+  pub is_found : found_of c m request.dev_eui ≡ Some f
+  pub home : is_net f.row.home head.sender ≡ true
+  pub awake : f.kept.suspended ≡ false
+  pub valid : step.wrong_mic (nwk f.device) request.phy_payload up f.row f.kept ≡ false
+  pub above : step.low_counter (nwk f.device) request.phy_payload up f.kept ≡ false
+  pub unspent : step.is_spent f.kept ≡ false
 
 -- an application that gets its key, and what it finds
-pub record IsAsked (c : Config) (m : Machine) (request : AppSKeyRequest) (at : ℕ) (row : DeviceRow) (kept : KeptDevice) (seed : KeptSeed) : Type 0 where
-  pub is_place : device_place request.dev_eui c.devices ≡ Some at
-  pub is_row : slice_get c.devices at ≡ Some row
-  pub is_kept : slice_get m.devices at ≡ Some kept
-  pub right : wrong_session request kept ≡ false
-  pub is_seed : seed_with request.session_key_id.join_nonce kept ≡ Some seed
+pub record IsAsked (c : Config) (m : Machine) (request : AppSKeyRequest) (f : Found) (seed : KeptSeed) : Type 0 where
+  pub is_found : found_of c m request.dev_eui ≡ Some f
+  pub right : is_no_session request f.kept ≡ false
+  pub is_seed : seed_with request.session_key_id.join_nonce f.kept ≡ Some seed
 
 -- R holds of what both come to, in each case
-pub record HoldsInCases (c : Config) (nwk app app' : ℕ → List ℕ) (m : Machine) (R : Decision → Decision → Type 0) : Type 0 where
-  pub headless : R (decision.Reply Headless) (decision.Reply Headless)
-  pub refusal : (head : Head) (why : Refusal) → R (decision.Reply (refused head why)) (decision.Reply (refused head why))
-  pub join : (head : Head) (request : JoinRequest) (frame : JoinFrame) (at : ℕ) (row : DeviceRow) (kept : KeptDevice) → IsJoin c m head request frame at row kept
-      → R (accepted c nwk app head request at row (next_seed frame row kept)) (accepted c nwk app' head request at row (next_seed frame row kept))
-  pub app_s_key : (head : Head) (request : AppSKeyRequest) (at : ℕ) (row : DeviceRow) (kept : KeptDevice) (seed : KeptSeed) → IsAsked c m request at row kept seed
-      → R (app_s_key_reply c app head request at row seed.seed) (app_s_key_reply c app' head request at row seed.seed)
+pub record HoldsInCases (c : Config) (nwk app app' : ℕ → List ℕ) (m : Machine) (head : Head) (R : JsDecision → JsDecision → Type 0) : Type 0 where
+  pub refusal : (why : Refusal) → R (refuses head why) (refuses head why)
+  pub join : (activation : Activation) (request : JoinRequest) (up : JoinUp) (f : Found) → IsJoin c nwk m activation head request up f
+      → R (accepted c nwk app activation head request up f) (accepted c nwk app' activation head request up f)
+  pub app_s_key : (request : AppSKeyRequest) (f : Found) (seed : KeptSeed) → IsAsked c m request f seed
+      → R (app_s_key_reply c app head request f seed.seed) (app_s_key_reply c app' head request f seed.seed)
+  pub home_ns : (f : Found) → (let d : JsDecision = decision.Reply (Headed head (HomeNSAns (record { h_net_id = f.row.home }))) in R d d)
 
-module _ (c : Config) (nwk app app' : ℕ → List ℕ) (m : Machine) (R : Decision → Decision → Type 0) (holds : HoldsInCases c nwk app app' m R) where
-  -- ---- joins
+not_not : (b : Bool) → not b ≡ false → b ≡ true
+not_not true h = refl
+not_not false h = absurd cc
 
-  spent_case : (head : Head) (request : JoinRequest) (frame : JoinFrame) (at : ℕ) (row : DeviceRow) (kept : KeptDevice) (spent : Bool)
-      → (spent ≡ false → IsJoin c m head request frame at row kept)
-      → R (cond spent (decision.Reply (refused head cause.Spent)) (accepted c nwk app head request at row (next_seed frame row kept)))
-      (cond spent (decision.Reply (refused head cause.Spent)) (accepted c nwk app' head request at row (next_seed frame row kept)))
-  spent_case head request frame at row kept true is = holds.refusal head cause.Spent
-  spent_case head request frame at row kept false is = holds.join head request frame at row kept (is refl)
+module _ (c : Config) (nwk app app' : ℕ → List ℕ) (m : Machine) (head : Head) (R : JsDecision → JsDecision → Type 0) (holds : HoldsInCases c nwk app app' m head R) where
+  by_first : (rules : List (Rule Refusal)) (success success' : JsDecision) (first : Option Refusal) → first_rule rules ≡ first → (first_rule rules ≡ None → R success success')
+      → R (by_rules (refuses head) rules success) (by_rules (refuses head) rules success')
+  by_first rules success success' (Some why) e then = rw (first_said (refuses head) rules success why e, first_said (refuses head) rules success' why e) (holds.refusal why)
+  by_first rules success success' None e then = rw (none_said (refuses head) rules success e, none_said (refuses head) rules success' e) (then e)
 
-  success_case : (head : Head) (request : JoinRequest) (frame : Option JoinFrame) (at : Option ℕ) (row : Option DeviceRow) (kept : Option KeptDevice)
-      → device_place request.dev_eui c.devices ≡ at → at_place c.devices at ≡ row → at_place m.devices at ≡ kept → is_known c head.sender ≡ true → holds_of (low_counter frame) kept ≡ false
-      → R (join_success_at c nwk app head request frame at row kept) (join_success_at c nwk app' head request frame at row kept)
-  success_case head request None at row kept place is is_kept known above = holds.refusal head cause.Device
-  success_case head request (Some frame) None row kept place is is_kept known above = holds.refusal head cause.Device
-  success_case head request (Some frame) (Some at) None kept place is is_kept known above = holds.refusal head cause.Device
-  success_case head request (Some frame) (Some at) (Some row) None place is is_kept known above = holds.refusal head cause.Device
-  success_case head request (Some frame) (Some at) (Some row) (Some kept) place is is_kept known above =
-      spent_case head request frame at row kept (is_spent kept) (λ unspent. record { is_place = place; is_row = is; is_kept = is_kept; known = known; above = above; unspent = unspent })
+  ruled : (rules : List (Rule Refusal)) (success success' : JsDecision) → (first_rule rules ≡ None → R success success') → R (by_rules (refuses head) rules success) (by_rules (refuses head) rules success')
+  ruled rules success success' then = by_first rules success success' (first_rule rules) refl then
 
-  join_case : (head : Head) (request : JoinRequest) (refusal : Option Refusal) → first_rule (join_rules c nwk m head request) ≡ refusal
-      → R (by_cause head refusal (join_success c nwk app m head request)) (by_cause head refusal (join_success c nwk app' m head request))
+  -- ---- joins and rejoins
+
+  spent_case : (activation : Activation) (request : JoinRequest) (up : JoinUp) (f : Found) (spent : Bool) → (spent ≡ false → IsJoin c nwk m activation head request up f)
+      → R (cond spent (refuses head cause.Spent) (accepted c nwk app activation head request up f)) (cond spent (refuses head cause.Spent) (accepted c nwk app' activation head request up f))
+  spent_case activation request up f true is = holds.refusal cause.Spent
+  spent_case activation request up f false is = holds.join activation request up f (is refl)
+
+  found_case : (activation : Activation) (request : JoinRequest) (up : Option JoinUp) (found : Option Found)
+      → join_up_of request.phy_payload ≡ up → found_of c m request.dev_eui ≡ found → wrong_home head found ≡ false → rule.is_suspended found ≡ false
+      → rule.wrong_mic nwk request.phy_payload up found ≡ false → rule.low_counter nwk request.phy_payload up found ≡ false
+      → R (join_success_at c nwk app activation head request up found) (join_success_at c nwk app' activation head request up found)
+  found_case activation request None found is_up is_found home awake valid above = holds.refusal cause.Frame
+  found_case activation request (Some up) None is_up is_found home awake valid above = holds.refusal cause.Device
+  found_case activation request (Some up) (Some f) is_up is_found home awake valid above =
+      spent_case activation request up f (step.is_spent f.kept) (λ unspent. record {
+        is_up = is_up;
+        is_found = is_found;
+        home = not_not _ home;
+        awake = awake;
+        valid = valid;
+        above = above;
+        unspent = unspent;
+      })
+
+  join_case : (activation : Activation) (request : JoinRequest) → first_rule (join_rules c nwk m activation head request) ≡ None
+      → R (join_success c nwk app m activation head request) (join_success c nwk app' m activation head request)
   unfolding join_rules join_success
-  join_case head request (Some refusal) e = holds.refusal head refusal
-  join_case head request None e =
-      let unheld = none_holds (join_rules c nwk m head request) e in
-      success_case head request _ _ _ _ refl refl refl (known_of (is_known c head.sender) unheld.0) unheld.1.1.1.1.1.1.1.1.1.0
+  join_case activation request e =
+      let device = (none_holds (join_rules c nwk m activation head request) e).1.1.1 in
+      let step = device.1.1.1 in
+      found_case activation request _ _ refl refl device.0 device.1.0 step.0 step.1.0
 
   -- ---- applications
 
-  seed_case : (head : Head) (request : AppSKeyRequest) (at : ℕ) (row : DeviceRow) (kept : KeptDevice) (seed : Option KeptSeed)
-      → device_place request.dev_eui c.devices ≡ Some at → slice_get c.devices at ≡ Some row → slice_get m.devices at ≡ Some kept → wrong_session request kept ≡ false → seed_with request.session_key_id.join_nonce kept ≡ seed
-      → R (app_s_key_success_with c app head request at row seed) (app_s_key_success_with c app' head request at row seed)
-  seed_case head request at row kept None place is is_kept right found = holds.refusal head cause.Session
-  seed_case head request at row kept (Some seed) place is is_kept right found =
-      holds.app_s_key head request at row kept seed (record { is_place = place; is_row = is; is_kept = is_kept; right = right; is_seed = found })
+  seed_case : (request : AppSKeyRequest) (f : Found) (seed : Option KeptSeed) → found_of c m request.dev_eui ≡ Some f → is_no_session request f.kept ≡ false → seed_with request.session_key_id.join_nonce f.kept ≡ seed
+      → R (app_s_key_success_with c app head request f seed) (app_s_key_success_with c app' head request f seed)
+  seed_case request f None is_found right found = holds.refusal cause.Session
+  seed_case request f (Some seed) is_found right found = holds.app_s_key request f seed (record { is_found = is_found; right = right; is_seed = found })
 
-  app_s_key_success_case : (head : Head) (request : AppSKeyRequest) (at : Option ℕ) (row : Option DeviceRow) (kept : Option KeptDevice)
-      → device_place request.dev_eui c.devices ≡ at → at_place c.devices at ≡ row → at_place m.devices at ≡ kept → holds_of (wrong_session request) kept ≡ false
-      → R (app_s_key_success_at c app head request at row kept) (app_s_key_success_at c app' head request at row kept)
-  app_s_key_success_case head request None row kept place is is_kept right = holds.refusal head cause.Device
-  app_s_key_success_case head request (Some at) None kept place is is_kept right = holds.refusal head cause.Device
-  app_s_key_success_case head request (Some at) (Some row) None place is is_kept right = holds.refusal head cause.Device
-  app_s_key_success_case head request (Some at) (Some row) (Some kept) place is is_kept right =
-      seed_case head request at row kept (seed_with request.session_key_id.join_nonce kept) place is is_kept right refl
+  session_case : (request : AppSKeyRequest) (found : Option Found) → found_of c m request.dev_eui ≡ found → rule.wrong_session request found ≡ false
+      → R (app_s_key_success_at c app head request found) (app_s_key_success_at c app' head request found)
+  session_case request None is_found right = holds.refusal cause.Device
+  session_case request (Some f) is_found right = seed_case request f _ is_found right refl
 
-  app_s_key_case : (head : Head) (request : AppSKeyRequest) (refusal : Option Refusal) → first_rule (app_s_key_rules c m head request) ≡ refusal
-      → R (by_cause head refusal (app_s_key_success c app m head request)) (by_cause head refusal (app_s_key_success c app' m head request))
-  unfolding app_s_key_rules app_s_key_success
-  app_s_key_case head request (Some refusal) e = holds.refusal head refusal
-  app_s_key_case head request None e = app_s_key_success_case head request _ _ _ refl refl refl (none_holds (app_s_key_rules c m head request) e).1.1.1.1.0
+  app_s_key_case : (request : AppSKeyRequest) → first_rule (app_s_key_rules_at head request (found_of c m request.dev_eui)) ≡ None
+      → R (app_s_key_success_at c app head request (found_of c m request.dev_eui)) (app_s_key_success_at c app' head request (found_of c m request.dev_eui))
+  app_s_key_case request e = session_case request _ refl (none_holds (app_s_key_rules_at head request (found_of c m request.dev_eui)) e).1.0
 
-  -- ---- all messages
+  -- ---- homes
 
-  unknown_case : (head : Head) (refusal : Option Refusal)
-      → R (by_cause head refusal (decision.Reply (refused head cause.«Type»))) (by_cause head refusal (decision.Reply (refused head cause.«Type»)))
-  unknown_case head None = holds.refusal head cause.«Type»
-  unknown_case head (Some refusal) = holds.refusal head refusal
+  home_ns_case : (found : Option Found) → R (home_ns_success_at head found) (home_ns_success_at head found)
+  home_ns_case None = holds.refusal cause.Device
+  home_ns_case (Some f) = holds.home_ns f
 
-  member_case : (head : Option Head) → R (decision.Reply (bad_member head)) (decision.Reply (bad_member head))
-  member_case None = holds.headless
-  member_case (Some head) = holds.refusal head cause.Message
+  -- ---- all requests
 
-  bad_case : (fault : Bad) → R (decision.Reply (bad_answer fault)) (decision.Reply (bad_answer fault))
-  bad_case bad.NotJson = holds.headless
-  bad_case bad.TooLong = holds.headless
-  bad_case (bad.Member name head) = member_case head
-  bad_case (bad.Version head) = holds.refusal head cause.Version
+  request_case : (request : Request) → first_rule (rules_of c nwk m head request) ≡ None → R (success_of c nwk app m head request) (success_of c nwk app' m head request)
+  request_case (JoinReq request) e = join_case by.Join request e
+  request_case (RejoinReq request) e = join_case by.Rejoin request e
+  request_case (AppSKeyReq request) e = app_s_key_case request e
+  request_case (HomeNSReq request) e = home_ns_case (found_of c m request.dev_eui)
+  request_case Unknown e = holds.refusal cause.«Type»
 
-  message_case : (head : Head) (request : Request) → R (decision_on c nwk app m head request) (decision_on c nwk app' m head request)
-  unfolding decision_on
-  message_case head (JoinReq request) = join_case head request (first_rule (join_rules c nwk m head request)) refl
-  message_case head (AppSKeyReq request) = app_s_key_case head request (first_rule (app_s_key_rules c m head request)) refl
-  message_case head Unknown = unknown_case head (first_rule (unknown_rules c head))
-
-  read_case : (read : Result Message Bad) → R (decision_of c nwk app m read) (decision_of c nwk app' m read)
-  read_case (Ok message) = message_case message.head message.request
-  read_case (Err fault) = bad_case fault
-
-pub by_cases : (c : Config) (keys keys' : List RootKeys) (m : Machine) (R : Decision → Decision → Type 0) → HoldsInCases c (nwk_at keys) (app_at keys) (app_at keys') m R → nwk_at keys ≡ nwk_at keys'
-    → (line : List ℕ) → R (decided c keys m line) (decided c keys' m line)
-unfolding decided
-by_cases c keys keys' m R holds same line =
-    subst (λ (nwk : ℕ → List ℕ). R (decision_of c (nwk_at keys) (app_at keys) m (message_of line)) (decision_of c nwk (app_at keys') m (message_of line))) same
-    (read_case c (nwk_at keys) (app_at keys) (app_at keys') m R holds (message_of line))
+  pub by_cases : (request : Request) → R (js_decided c nwk app m head request) (js_decided c nwk app' m head request)
+  unfolding js_decided
+  by_cases request = ruled (rules_of c nwk m head request) _ _ (request_case request)

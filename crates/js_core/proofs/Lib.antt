@@ -1,12 +1,11 @@
-pub mod Sets
-pub mod Agreeing
-pub mod Long
-pub mod JoinFrames
-pub mod Order
-pub mod Sessions
-pub mod Changes
+mod Sets
+mod Sessions
+pub mod Lapsing
+mod JoinFrames
+pub mod Causes
+mod Order
 pub mod Cases
+pub mod Changes
+pub mod Agreeing
 pub mod Unread
 pub mod AppKeys
-pub mod Marks
-pub mod Issuing

@@ -5,15 +5,15 @@ use Rattle.std.specs.List.{find}
 use Rattle.std.specs.Option.{option_copied}
 use Rattle.agreements.proofs.Belonging.{is_some-find}
 use Rattle.backend_json.specs.declared.request.AppSKeyRequest.{AppSKeyRequest}
-use Rattle.js_core.specs.declared.kept.KeptDevice.{KeptDevice}
-use Rattle.js_core.specs.declared.kept.KeptSeed.{KeptSeed}
+use Rattle.entry_codec.specs.declared.device.Device.{Device}
+use Rattle.entry_codec.specs.declared.device.KeptSeed.{KeptSeed}
 use Rattle.js_core.specs.Replies.{seed_with}
-use Rattle.js_core.specs.Rules.{has_nonce, wrong_session}
+use Rattle.js_core.specs.Rules.{has_nonce, is_no_session}
 
-pub session_found : (request : AppSKeyRequest) (kept : KeptDevice) (found : Option (Bor KeptSeed))
+pub session_found : (request : AppSKeyRequest) (kept : Device) (found : Option (Bor KeptSeed))
     → (request.session_key_id.dev_eui.0 == request.dev_eui.0) ≡ true
     → option_copied found ≡ find (has_nonce request.session_key_id.join_nonce) kept.seeds.items
-    → MatchOption found (wrong_session request kept ≡ true) (λ s. (wrong_session request kept ≡ false) × (seed_with request.session_key_id.join_nonce kept ≡ Some s.now))
+    → MatchOption found (is_no_session request kept ≡ true) (λ s. (is_no_session request kept ≡ false) × (seed_with request.session_key_id.join_nonce kept ≡ Some s.now))
 session_found request kept None same is =
     rw (same, sym (is_some-find (has_nonce request.session_key_id.join_nonce) kept.seeds.items), sym is) refl
 session_found request kept (Some s) same is =

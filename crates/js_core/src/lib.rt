@@ -1,21 +1,19 @@
-//! The join server: what it keeps, in what order it refuses, and what it answers.
+//! The join server: in what order it refuses, and what it answers.
 #![tactic(auto)]
 
+mod activation;
 mod decide;
-mod decision;
+mod found;
 mod frames;
-mod kept;
 mod keys;
 pub mod laws;
 mod parties;
+mod question;
 mod rules;
-mod state;
 mod step;
-#[cfg(test)]
-mod tests;
 
-pub use decision::{AcceptedJoin, Decision};
-pub use frames::JoinFrame;
-pub use kept::{KeptDevice, KeptSeed};
-pub use state::State;
-pub use step::{answer, steps_agree};
+pub use activation::Activation;
+pub use decide::{JsDecision, js_decide, refused};
+pub use parties::{is_known, may_send, reaches};
+pub use question::NoQuestion;
+pub use step::JoinStep;

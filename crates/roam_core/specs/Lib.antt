@@ -1,0 +1,9 @@
+pub mod Order
+pub mod Desk
+pub mod Decided
+pub mod Lines
+pub mod Legal
+pub mod Entering
+pub mod Agreement
+pub mod AppKey
+pub mod Issues

@@ -1,0 +1,2 @@
+//! The whole decision of a request.
+#![tactic(auto)]

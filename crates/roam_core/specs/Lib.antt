@@ -1,0 +1,4 @@
+pub mod Desk
+pub mod Moments
+pub mod Lines
+pub mod Entering

@@ -3,9 +3,10 @@ use Rattle.std.proofs.Common.{◌≡◌, ℕ, List, [], ◌++◌, Option, Some, 
 use Rattle.backend_json.specs.declared.answer.Answer.TheVariants.{Headed, Headless}
 use Rattle.backend_json.specs.declared.answer.AnswerKeys.{AnswerKeys}
 use Rattle.backend_json.specs.declared.answer.AppSKeyAnswer.{AppSKeyAnswer}
+use Rattle.backend_json.specs.declared.answer.HomeNsAnswer.{HomeNsAnswer}
 use Rattle.backend_json.specs.declared.answer.JoinAnswer.{JoinAnswer}
 use Rattle.backend_json.specs.declared.answer.KeyEnvelope.{KeyEnvelope}
-use Rattle.backend_json.specs.declared.answer.Outcome.TheVariants.{AppSKeyAns, JoinAns, Refused}
+use Rattle.backend_json.specs.declared.answer.Outcome.TheVariants.{AppSKeyAns, HomeNSAns, JoinAns, Refused, RejoinAns}
 use Rattle.backend_json.specs.declared.head.Head.{Head}
 use Rattle.backend_json.specs.declared.refusal.Refusal.{Refusal}
 use Rattle.backend_json.specs.Answers.{answer_members, key_data, named, result_data}
@@ -42,6 +43,14 @@ pub join_written : (head : Head) (answer : JoinAnswer) → key_members (Headed h
 unfolding key_members answer_members named result_data
 join_written head answer = all_read answer.keys
 
+pub rejoin_written : (head : Head) (answer : JoinAnswer) → key_members (Headed head (RejoinAns answer)) ≡ members_of_keys answer.keys
+unfolding key_members answer_members named result_data
+rejoin_written head answer = all_read answer.keys
+
+pub home_ns_written : (head : Head) (answer : HomeNsAnswer) → key_members (Headed head (HomeNSAns answer)) ≡ []
+unfolding key_members answer_members named result_data
+home_ns_written head answer = refl
+
 one_read : (name : List ℕ) (key : Option KeyEnvelope) → read name key ++ [] ≡ key_if name key
 one_read name key = rw (key_read name key, append-nil (key_if name key)) refl
 
@@ -50,4 +59,4 @@ unfolding key_members answer_members named result_data
 app_s_key_written head answer = one_read (codes "AppSKey") answer.app_s_key
 
 pub keys_are_written : KeysAreWritten
-keys_are_written = record { headless = headless_written; refused = none_written; join = join_written; app_s_key = app_s_key_written }
+keys_are_written = record { headless = headless_written; refused = none_written; join = join_written; rejoin = rejoin_written; app_s_key = app_s_key_written; home_ns = home_ns_written }

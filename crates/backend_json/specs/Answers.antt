@@ -20,10 +20,11 @@ use Rattle.backend_json.specs.declared.answer.Answer.{Answer}
 use Rattle.backend_json.specs.declared.answer.Answer.TheVariants.{Headless, Headed}
 use Rattle.backend_json.specs.declared.answer.AnswerKeys.{AnswerKeys}
 use Rattle.backend_json.specs.declared.answer.AppSKeyAnswer.{AppSKeyAnswer}
+use Rattle.backend_json.specs.declared.answer.HomeNsAnswer.{HomeNsAnswer}
 use Rattle.backend_json.specs.declared.answer.JoinAnswer.{JoinAnswer}
 use Rattle.backend_json.specs.declared.answer.KeyEnvelope.{KeyEnvelope}
 use Rattle.backend_json.specs.declared.answer.Outcome.{Outcome}
-use Rattle.backend_json.specs.declared.answer.Outcome.TheVariants.{Refused, JoinAns, AppSKeyAns}
+use Rattle.backend_json.specs.declared.answer.Outcome.TheVariants.{Refused, JoinAns, RejoinAns, AppSKeyAns, HomeNSAns}
 use Rattle.backend_json.specs.Objects.{Field, field, object_text}
 use Rattle.backend_json.specs.Refusals.{code_of, code_text, description_of}
 use Rattle.backend_json.specs.Types.{answer_name}
@@ -58,6 +59,7 @@ pub record AnswerMembers : Type 0 where
   pub app_s_key : Option Data
   pub dev_eui : Option Data
   pub f_nwk_s_int_key : Option Data
+  pub h_net_id : Option Data
   pub lifetime : Option Data
   pub message_type : Option Data
   pub nwk_s_enc_key : Option Data
@@ -76,6 +78,7 @@ named m =
     field (codes "AppSKey") m.app_s_key
     ∷ field (codes "DevEUI") m.dev_eui
     ∷ field (codes "FNwkSIntKey") m.f_nwk_s_int_key
+    ∷ field (codes "HNetID") m.h_net_id
     ∷ field (codes "Lifetime") m.lifetime
     ∷ field (codes "MessageType") m.message_type
     ∷ field (codes "NwkSEncKey") m.nwk_s_enc_key
@@ -95,6 +98,7 @@ of_type message_type = record {
   app_s_key = None;
   dev_eui = None;
   f_nwk_s_int_key = None;
+  h_net_id = None;
   lifetime = None;
   message_type = Some (string message_type);
   nwk_s_enc_key = None;
@@ -129,10 +133,9 @@ refusal_data cause = result_data (code_of cause) (description_of cause)
 abbrev pub success : Head → AnswerMembers
 success head = record (headed head head.protocol_version) { result = Some (result_data code.Success []) }
 
--- the members of each answer; a refusal has its Result, and no further member
-abbrev pub members_for : Head → Outcome → AnswerMembers
-members_for head (Refused cause) = record (headed head (answer_version head cause)) { result = Some (refusal_data cause) }
-members_for head (JoinAns answer) = record (success head) {
+-- of a JoinAns and of a RejoinAns
+abbrev pub join_members : Head → JoinAnswer → AnswerMembers
+join_members head answer = record (success head) {
   app_s_key = option_map key_data answer.keys.app_s_key;
   f_nwk_s_int_key = option_map key_data answer.keys.f_nwk_s_int_key;
   lifetime = Some (number (unsigned answer.lifetime));
@@ -141,11 +144,18 @@ members_for head (JoinAns answer) = record (success head) {
   s_nwk_s_int_key = option_map key_data answer.keys.s_nwk_s_int_key;
   session_key_id = Some (hex_data (session_bytes answer.session_key_id));
 }
+
+-- the members of each answer; a refusal has its Result, and no further member
+abbrev pub members_for : Head → Outcome → AnswerMembers
+members_for head (Refused cause) = record (headed head (answer_version head cause)) { result = Some (refusal_data cause) }
+members_for head (JoinAns answer) = join_members head answer
+members_for head (RejoinAns answer) = join_members head answer
 members_for head (AppSKeyAns answer) = record (success head) {
   app_s_key = option_map key_data answer.app_s_key;
   dev_eui = Some (string (eui_digits answer.dev_eui));
   session_key_id = Some (hex_data (session_bytes answer.session_key_id));
 }
+members_for head (HomeNSAns answer) = record (success head) { h_net_id = Some (string (net_digits answer.h_net_id)) }
 
 -- without a readable head there are a type and a result alone
 abbrev pub headless : AnswerMembers

@@ -9,9 +9,10 @@ use Rattle.backend_json.specs.declared.answer.Answer.{Answer}
 use Rattle.backend_json.specs.declared.answer.Answer.TheVariants.{Headless, Headed}
 use Rattle.backend_json.specs.declared.answer.AnswerKeys.{AnswerKeys}
 use Rattle.backend_json.specs.declared.answer.AppSKeyAnswer.{AppSKeyAnswer}
+use Rattle.backend_json.specs.declared.answer.HomeNsAnswer.{HomeNsAnswer}
 use Rattle.backend_json.specs.declared.answer.JoinAnswer.{JoinAnswer}
 use Rattle.backend_json.specs.declared.answer.KeyEnvelope.{KeyEnvelope}
-use Rattle.backend_json.specs.declared.answer.Outcome.TheVariants.{Refused, JoinAns, AppSKeyAns}
+use Rattle.backend_json.specs.declared.answer.Outcome.TheVariants.{Refused, JoinAns, RejoinAns, AppSKeyAns, HomeNSAns}
 use Rattle.backend_json.specs.Answers.{answer_members, named}
 use Rattle.backend_json.specs.Objects.{Field}
 
@@ -53,9 +54,11 @@ members_of_keys keys =
     ++ (key_if (codes "NwkSEncKey") keys.nwk_s_enc_key
     ++ key_if (codes "SNwkSIntKey") keys.s_nwk_s_int_key))
 
--- the keys that are written are those of the answer, each under its own name, and a refusal has none
+-- the keys that are written are those of the answer, each under its own name, and a refusal has none, as the answer to a home look-up
 pub record KeysAreWritten : Type 0 where
   pub headless : key_members Headless ≡ []
   pub refused : (head : Head) (cause : Refusal) → key_members (Headed head (Refused cause)) ≡ []
   pub join : (head : Head) (answer : JoinAnswer) → key_members (Headed head (JoinAns answer)) ≡ members_of_keys answer.keys
+  pub rejoin : (head : Head) (answer : JoinAnswer) → key_members (Headed head (RejoinAns answer)) ≡ members_of_keys answer.keys
   pub app_s_key : (head : Head) (answer : AppSKeyAnswer) → key_members (Headed head (AppSKeyAns answer)) ≡ key_if (codes "AppSKey") answer.app_s_key
+  pub home_ns : (head : Head) (answer : HomeNsAnswer) → key_members (Headed head (HomeNSAns answer)) ≡ []

@@ -3,7 +3,7 @@ use Rattle.std.specs.Prelude.{ℕ, List, [], ◌++◌, Option, Some, None, codes
 use Rattle.backend_json.specs.declared.refusal.Refusal.{Refusal}
 use Rattle.backend_json.specs.declared.refusal.Refusal.TheVariants as refusal
 use Rattle.backend_json.specs.declared.refusal.ResultCode.{ResultCode}
-use Rattle.backend_json.specs.declared.refusal.ResultCode.TheVariants.{Success, MalformedRequest, InvalidProtocolVersion, UnknownSender, UnknownReceiver, FrameSizeError, UnknownDevEui, ActivationDisallowed, JoinReqFailed, MicFailed, Other}
+use Rattle.backend_json.specs.declared.refusal.ResultCode.TheVariants.{Success, MalformedRequest, InvalidProtocolVersion, UnknownSender, UnknownReceiver, Deferred, FrameSizeError, UnknownDevEui, ActivationDisallowed, JoinReqFailed, MicFailed, Other}
 
 abbrev pub code_text : ResultCode → List ℕ
 code_text Success = codes "Success"
@@ -11,6 +11,7 @@ code_text MalformedRequest = codes "MalformedRequest"
 code_text InvalidProtocolVersion = codes "InvalidProtocolVersion"
 code_text UnknownSender = codes "UnknownSender"
 code_text UnknownReceiver = codes "UnknownReceiver"
+code_text Deferred = codes "Deferred"
 code_text FrameSizeError = codes "FrameSizeError"
 code_text UnknownDevEui = codes "UnknownDevEUI"
 code_text ActivationDisallowed = codes "ActivationDisallowed"
@@ -38,10 +39,12 @@ row_of refusal.Version = row 2 InvalidProtocolVersion (codes "version")
 row_of refusal.Sender = row 3 UnknownSender (codes "sender")
 row_of refusal.Receiver = row 4 UnknownReceiver (codes "receiver")
 row_of refusal.Type = row 5 MalformedRequest (codes "type")
+row_of refusal.Asked = row 7 Deferred (codes "asked")
 row_of refusal.Size = row 8 FrameSizeError (codes "size")
 row_of refusal.Frame = row 9 MalformedRequest (codes "frame")
 row_of refusal.Device = row 10 UnknownDevEui (codes "device")
 row_of refusal.Home = row 12 ActivationDisallowed (codes "home")
+row_of refusal.Suspended = row 13 ActivationDisallowed (codes "suspended")
 row_of refusal.Eui = row 18 JoinReqFailed (codes "eui")
 row_of refusal.Mic = row 19 MicFailed (codes "mic")
 row_of refusal.Counter = row 20 JoinReqFailed (codes "counter")

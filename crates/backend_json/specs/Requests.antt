@@ -10,8 +10,9 @@ use Rattle.backend_json.specs.declared.message_type.MessageType.{MessageType}
 use Rattle.backend_json.specs.declared.message_type.MessageType.TheVariants as kind
 use Rattle.backend_json.specs.declared.request.JoinRequest.{JoinRequest}
 use Rattle.backend_json.specs.declared.request.AppSKeyRequest.{AppSKeyRequest}
+use Rattle.backend_json.specs.declared.request.HomeNsRequest.{HomeNsRequest}
 use Rattle.backend_json.specs.declared.request.Request.{Request}
-use Rattle.backend_json.specs.declared.request.Request.TheVariants.{JoinReq, AppSKeyReq, Unknown}
+use Rattle.backend_json.specs.declared.request.Request.TheVariants.{JoinReq, RejoinReq, AppSKeyReq, HomeNSReq, Unknown}
 use Rattle.backend_json.specs.Forms.{byte_form, bytes_form, cf_list_form, dev_addr_form, eui_form, peer_form, sender_form, session_form, type_form, whole_form}
 use Rattle.backend_json.specs.Members.{◌>>=◌, needed, optional}
 
@@ -38,6 +39,7 @@ radio_in d = do
   cf ← optional cf_list_form member.CfList d
   Ok (record { dl = dl; rx_delay = rx_delay; cf = cf_list_given cf })
 
+-- the members of a JoinReq or a RejoinReq
 unfoldable pub join_req_in : Data → Result JoinRequest Key
 join_req_in d = do
   mac_version ← needed as_str member.MacVersion d
@@ -53,8 +55,15 @@ app_s_key_req_in d = do
   session_key_id ← needed session_form member.SessionKeyId d
   Ok (record { dev_eui = dev_eui; session_key_id = session_key_id })
 
+unfoldable pub home_ns_req_in : Data → Result HomeNsRequest Key
+home_ns_req_in d = do
+  dev_eui ← needed eui_form member.DevEui d
+  Ok (record { dev_eui = dev_eui })
+
 -- of a type that isn't served the common members alone are read
 unfoldable pub request_in : MessageType → Data → Result Request Key
 request_in kind.JoinReq d = join_req_in d >>= λ request. Ok (JoinReq request)
+request_in kind.RejoinReq d = join_req_in d >>= λ request. Ok (RejoinReq request)
 request_in kind.AppSKeyReq d = app_s_key_req_in d >>= λ request. Ok (AppSKeyReq request)
+request_in kind.HomeNSReq d = home_ns_req_in d >>= λ request. Ok (HomeNSReq request)
 request_in kind.Unknown d = Ok Unknown

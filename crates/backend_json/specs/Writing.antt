@@ -35,6 +35,7 @@ members_now m = record {
   app_s_key = option_map value_data m.app_s_key;
   dev_eui = option_map value_data m.dev_eui;
   f_nwk_s_int_key = option_map value_data m.f_nwk_s_int_key;
+  h_net_id = option_map value_data m.h_net_id;
   lifetime = option_map value_data m.lifetime;
   message_type = option_map value_data m.message_type;
   nwk_s_enc_key = option_map value_data m.nwk_s_enc_key;

@@ -1,6 +1,6 @@
 use crate::{Head, Refusal, SessionKeyId};
 use std::marker::Model;
-use wire_ids::{Eui, Text};
+use wire_ids::{Eui, NetId, Text};
 
 /// An answer to a body.
 #[derive(Drop)]
@@ -16,7 +16,9 @@ pub enum Answer<'a> {
 pub enum Outcome<'a> {
     Refused(Refusal),
     JoinAns(JoinAnswer<'a>),
+    RejoinAns(JoinAnswer<'a>),
     AppSKeyAns(AppSKeyAnswer<'a>),
+    HomeNSAns(HomeNsAnswer),
 }
 
 /// The label of a KEK, as it stands in the tables. Contracts see its bytes.
@@ -66,7 +68,7 @@ pub struct AnswerKeys<'a> {
     pub app_s_key: Option<KeyEnvelope<'a>>,
 }
 
-/// The members of a JoinAns of Success.
+/// The members of a JoinAns or a RejoinAns of Success.
 #[derive(Drop)]
 pub struct JoinAnswer<'a> {
     /// PHYPayload: the join-accept.
@@ -83,4 +85,11 @@ pub struct AppSKeyAnswer<'a> {
     pub dev_eui: Eui,
     pub app_s_key: Option<KeyEnvelope<'a>>,
     pub session_key_id: SessionKeyId,
+}
+
+/// The members of a HomeNSAns of Success.
+#[derive(Clone, Copy)]
+pub struct HomeNsAnswer {
+    /// HNetID: the NetID of the device's home.
+    pub h_net_id: NetId,
 }

@@ -16,11 +16,13 @@ mod session;
 mod value;
 mod writing;
 
-pub use answer::{Answer, AnswerKeys, AppSKeyAnswer, JoinAnswer, KekLabel, KeyEnvelope, Outcome};
+pub use answer::{
+    Answer, AnswerKeys, AppSKeyAnswer, HomeNsAnswer, JoinAnswer, KekLabel, KeyEnvelope, Outcome,
+};
 pub use head::Head;
 pub use members::answer_text;
 pub use message::{Bad, Message, read_message};
 pub use message_type::{MessageType, ReceiverKind, SenderKind};
 pub use refusal::{Refusal, ResultCode};
-pub use request::{AppSKeyRequest, JoinRequest, Request};
+pub use request::{AppSKeyRequest, HomeNsRequest, JoinRequest, Request};
 pub use session::SessionKeyId;

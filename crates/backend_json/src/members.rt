@@ -1,17 +1,18 @@
 //! The members of each answer, and the texts of answers.
 
 ghost use Rattle.std.specs.Prelude.{◌≡◌, IfOk, map, option_map};
-ghost use Rattle.backend_json.specs.declared.answer.Outcome.TheVariants.{AppSKeyAns, JoinAns};
+ghost use Rattle.backend_json.specs.declared.answer.Outcome.TheVariants.{AppSKeyAns, HomeNSAns};
 ghost use Rattle.backend_json.specs.declared.answer.Outcome.TheVariants.{Refused};
 ghost use Rattle.backend_json.specs.Answers.{answer_members, answer_version, headed, headless};
-ghost use Rattle.backend_json.specs.Answers.{key_data, members_for, named, of_type, success};
-ghost use Rattle.backend_json.specs.Answers.{text_of};
+ghost use Rattle.backend_json.specs.Answers.{join_members, key_data, members_for, named, of_type};
+ghost use Rattle.backend_json.specs.Answers.{success, text_of};
 ghost use Rattle.backend_json.specs.Writing.{field_now, members_now, value_data};
 
 use crate::object::{Member, put_object};
 use crate::value::Value;
 use crate::{
-    Answer, AnswerKeys, AppSKeyAnswer, Head, JoinAnswer, KeyEnvelope, Outcome, Refusal, ResultCode,
+    Answer, AppSKeyAnswer, Head, HomeNsAnswer, JoinAnswer, KeyEnvelope, Outcome, Refusal,
+    ResultCode,
 };
 use std::alloc::Global;
 use wire_ids::{Memory, Text};
@@ -22,6 +23,7 @@ struct Members<'a> {
     app_s_key: Option<Value<'a>>,
     dev_eui: Option<Value<'a>>,
     f_nwk_s_int_key: Option<Value<'a>>,
+    h_net_id: Option<Value<'a>>,
     lifetime: Option<Value<'a>>,
     message_type: Option<Value<'a>>,
     nwk_s_enc_key: Option<Value<'a>>,
@@ -38,13 +40,14 @@ struct Members<'a> {
 impl<'a> Members<'a> {
     // By their names, in ascending byte order.
     #[tactic(auto, unfolding(crate::specs::Answers::named))]
-    fn named(&'a self) -> [Member<'a, Value<'a>>; 14]
+    fn named(&'a self) -> [Member<'a, Value<'a>>; 15]
         ensures { map (field_now value_data) result ≡ named (members_now self.now) }
     {
         [
             Member("AppSKey", &self.app_s_key),
             Member("DevEUI", &self.dev_eui),
             Member("FNwkSIntKey", &self.f_nwk_s_int_key),
+            Member("HNetID", &self.h_net_id),
             Member("Lifetime", &self.lifetime),
             Member("MessageType", &self.message_type),
             Member("NwkSEncKey", &self.nwk_s_enc_key),
@@ -68,6 +71,7 @@ fn of_type<'a>(message_type: &'static str) -> Members<'a>
         app_s_key: None,
         dev_eui: None,
         f_nwk_s_int_key: None,
+        h_net_id: None,
         lifetime: None,
         message_type: Some(Value::Text(message_type.as_bytes())),
         nwk_s_enc_key: None,
@@ -133,8 +137,9 @@ fn key<'a>(key: &'a Option<KeyEnvelope<'a>>) -> Option<Value<'a>>
     }
 }
 
+// Of a JoinAns and of a RejoinAns.
 fn join_members<'a>(head: &'a Head, answer: &'a JoinAnswer<'a>) -> Members<'a>
-    ensures { members_now result ≡ members_for head.now (JoinAns answer.now) }
+    ensures { members_now result ≡ join_members head.now answer.now }
 {
     Members {
         app_s_key: key(&answer.keys.app_s_key),
@@ -159,13 +164,23 @@ fn app_s_key_members<'a>(head: &'a Head, answer: &'a AppSKeyAnswer<'a>) -> Membe
     }
 }
 
+fn home_ns_members<'a>(head: &'a Head, answer: &HomeNsAnswer) -> Members<'a>
+    ensures { members_now result ≡ members_for head.now (HomeNSAns answer.now) }
+{
+    Members {
+        h_net_id: Some(Value::Net(answer.h_net_id)),
+        ..success(head)
+    }
+}
+
 fn members_for<'a>(head: &'a Head, outcome: &'a Outcome<'a>) -> Members<'a>
     ensures { members_now result ≡ members_for head.now outcome.now }
 {
     match outcome {
         Outcome::Refused(cause) => refused_members(head, cause),
-        Outcome::JoinAns(answer) => join_members(head, answer),
+        Outcome::JoinAns(answer) | Outcome::RejoinAns(answer) => join_members(head, answer),
         Outcome::AppSKeyAns(answer) => app_s_key_members(head, answer),
+        Outcome::HomeNSAns(answer) => home_ns_members(head, answer),
     }
 }
 

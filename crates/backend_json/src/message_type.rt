@@ -1,6 +1,6 @@
-ghost use Rattle.std.specs.Prelude.{◌≡◌};
-ghost use Rattle.backend_json.specs.Types.{answer_name, name_of, receiver_of, sender_of};
-ghost use Rattle.backend_json.specs.Types.{type_named, type_row};
+ghost use Rattle.std.specs.Prelude.{◌≡◌, find, option_copied};
+ghost use Rattle.backend_json.specs.Types.{answer_name, has_name, name_of, receiver_of};
+ghost use Rattle.backend_json.specs.Types.{sender_of, type_named, type_row};
 
 /// Of which kind the senders of a message are.
 #[derive(Clone, Copy, Debug, PartialEq, Eq)]
@@ -24,13 +24,27 @@ pub enum ReceiverKind {
 #[derive(Clone, Copy, Debug, PartialEq, Eq)]
 pub enum MessageType {
     JoinReq,
+    RejoinReq,
     AppSKeyReq,
+    HomeNSReq,
     /// A type that isn't served.
     Unknown,
 }
 
 // The types that are served.
-const SERVED: [MessageType; 2] = [MessageType::JoinReq, MessageType::AppSKeyReq];
+const SERVED: [MessageType; 4] = [
+    MessageType::JoinReq,
+    MessageType::RejoinReq,
+    MessageType::AppSKeyReq,
+    MessageType::HomeNSReq,
+];
+
+// Of these types the first of this name.
+fn among<'a>(types: &'a [MessageType], name: &[u8]) -> Option<&'a MessageType>
+    ensures { option_copied result ≡ find (has_name name.now) types.now }
+{
+    types.iter().find(|kind| kind.name().as_bytes() == name)
+}
 
 impl MessageType {
     // The table of the types: name, the answer's name, and the kinds of sender and receiver.
@@ -45,7 +59,9 @@ impl MessageType {
         use SenderKind::{Application, Network, Nobody};
         match self {
             MessageType::JoinReq => ("JoinReq", "JoinAns", Network, JoinServer),
+            MessageType::RejoinReq => ("RejoinReq", "RejoinAns", Network, JoinServer),
             MessageType::AppSKeyReq => ("AppSKeyReq", "AppSKeyAns", Application, JoinServer),
+            MessageType::HomeNSReq => ("HomeNSReq", "HomeNSAns", Network, JoinServer),
             MessageType::Unknown => ("", "ErrorNotif", Nobody, Any),
         }
     }
@@ -61,7 +77,7 @@ impl MessageType {
     pub fn named(name: &[u8]) -> MessageType
         ensures { result ≡ type_named name.now }
     {
-        match SERVED.iter().find(|kind| kind.name().as_bytes() == name) {
+        match among(&SERVED, name) {
             Some(kind) => *kind,
             None => MessageType::Unknown,
         }

@@ -12,6 +12,7 @@ pub enum ResultCode {
     InvalidProtocolVersion,
     UnknownSender,
     UnknownReceiver,
+    Deferred,
     FrameSizeError,
     UnknownDevEui,
     ActivationDisallowed,
@@ -31,6 +32,7 @@ impl ResultCode {
             ResultCode::InvalidProtocolVersion => "InvalidProtocolVersion",
             ResultCode::UnknownSender => "UnknownSender",
             ResultCode::UnknownReceiver => "UnknownReceiver",
+            ResultCode::Deferred => "Deferred",
             ResultCode::FrameSizeError => "FrameSizeError",
             ResultCode::UnknownDevEui => "UnknownDevEUI",
             ResultCode::ActivationDisallowed => "ActivationDisallowed",
@@ -55,6 +57,8 @@ pub enum Refusal {
     Receiver,
     /// Such a sender doesn't send this MessageType.
     Type,
+    /// An ask that isn't answered yet has the very body.
+    Asked,
     /// PHYPayload has a length that no such frame has.
     Size,
     /// PHYPayload isn't a frame of the message's kind, or another member doesn't go with it.
@@ -63,6 +67,8 @@ pub enum Refusal {
     Device,
     /// The sender isn't the device's home.
     Home,
+    /// The device is suspended.
+    Suspended,
     /// The frame names another JoinEUI or NetID than the device's.
     Eui,
     /// The frame's MIC isn't valid.
@@ -97,10 +103,12 @@ impl Refusal {
             Refusal::Sender => (Some(3), ResultCode::UnknownSender, "sender"),
             Refusal::Receiver => (Some(4), ResultCode::UnknownReceiver, "receiver"),
             Refusal::Type => (Some(5), ResultCode::MalformedRequest, "type"),
+            Refusal::Asked => (Some(7), ResultCode::Deferred, "asked"),
             Refusal::Size => (Some(8), ResultCode::FrameSizeError, "size"),
             Refusal::Frame => (Some(9), ResultCode::MalformedRequest, "frame"),
             Refusal::Device => (Some(10), ResultCode::UnknownDevEui, "device"),
             Refusal::Home => (Some(12), ResultCode::ActivationDisallowed, "home"),
+            Refusal::Suspended => (Some(13), ResultCode::ActivationDisallowed, "suspended"),
             Refusal::Eui => (Some(18), ResultCode::JoinReqFailed, "eui"),
             Refusal::Mic => (Some(19), ResultCode::MicFailed, "mic"),
             Refusal::Counter => (Some(20), ResultCode::JoinReqFailed, "counter"),

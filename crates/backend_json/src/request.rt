@@ -1,6 +1,7 @@
 ghost use Rattle.serde_json.specs.View.{view};
 ghost use Rattle.backend_json.specs.Members.{GivesMember};
-ghost use Rattle.backend_json.specs.Requests.{app_s_key_req_in, join_req_in, radio_in, request_in};
+ghost use Rattle.backend_json.specs.Requests.{app_s_key_req_in, home_ns_req_in, join_req_in};
+ghost use Rattle.backend_json.specs.Requests.{radio_in, request_in};
 
 use crate::form::{Below, Byte, Bytes, CfList};
 use crate::member::{Gap, Key, needed, optional};
@@ -9,7 +10,7 @@ use serde_json::Value;
 use std::alloc::Global;
 use wire_ids::{DevAddr, Eui, Radio, Text};
 
-/// The members of a JoinReq.
+/// The members of a JoinReq or a RejoinReq.
 #[derive(Drop)]
 pub struct JoinRequest {
     /// MACVersion, any text.
@@ -30,11 +31,19 @@ pub struct AppSKeyRequest {
     pub session_key_id: SessionKeyId,
 }
 
+/// The members of a HomeNSReq.
+#[derive(Clone, Copy)]
+pub struct HomeNsRequest {
+    pub dev_eui: Eui,
+}
+
 /// What a message asks: the members that its type has beside the head.
 #[derive(Drop)]
 pub enum Request {
     JoinReq(JoinRequest),
+    RejoinReq(JoinRequest),
     AppSKeyReq(AppSKeyRequest),
+    HomeNSReq(HomeNsRequest),
     /// Of a type that isn't served no further member was read.
     Unknown,
 }
@@ -87,13 +96,23 @@ fn app_s_key_req(alloc: Global, value: &Value) -> Result<AppSKeyRequest, Gap>
     })
 }
 
+#[tactic(auto, unfolding(crate::specs::Requests::home_ns_req_in))]
+fn home_ns_req(alloc: Global, value: &Value) -> Result<HomeNsRequest, Gap>
+    ensures { GivesMember result (home_ns_req_in (view value.now)) }
+{
+    let dev_eui = needed(alloc, value, Key::DevEui)?;
+    Ok(HomeNsRequest { dev_eui })
+}
+
 #[tactic(auto, unfolding(crate::specs::Requests::request_in))]
 pub(crate) fn read_request(alloc: Global, kind: MessageType, value: &Value) -> Result<Request, Gap>
     ensures { GivesMember result (request_in kind (view value.now)) }
 {
     Ok(match kind {
         MessageType::JoinReq => Request::JoinReq(join_req(alloc, value)?),
+        MessageType::RejoinReq => Request::RejoinReq(join_req(alloc, value)?),
         MessageType::AppSKeyReq => Request::AppSKeyReq(app_s_key_req(alloc, value)?),
+        MessageType::HomeNSReq => Request::HomeNSReq(home_ns_req(alloc, value)?),
         MessageType::Unknown => Request::Unknown,
     })
 }

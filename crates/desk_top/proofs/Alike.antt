@@ -10,9 +10,8 @@ use Rattle.disk_model.specs.Written.{AppendsFront}
 use Rattle.disk_model.proofs.WrittenLemmas.{AppendsFront_none}
 use Rattle.line_reader.specs.Hearing.{UsesUp}
 use Rattle.line_reader.specs.declared.reader.Heard.TheVariants.{Line}
-use Rattle.roam_core.specs.Desk.{Desk, desk_with}
-use Rattle.roam_core.specs.Lines.{Reaction, reaction}
-use Rattle.roam_core.specs.Moments.{moment_of}
+use Rattle.roam_core.specs.Desk.{Desk, desk_with, moment_of}
+use Rattle.roam_core.specs.Lines.{Reaction, answer_to, reaction}
 use Rattle.roam_core.proofs.Long.{too_long_alike}
 use Rattle.desk_top.specs.Output.{answer_line, desk_then}
 use Rattle.desk_top.specs.Turns.{Outside, Turns, WritesFront}
@@ -27,18 +26,18 @@ same_reaction c keys s text line moment e = ap (λ (t : List ℕ). reaction c ke
 
 -- a line was answered whole, from its first bytes
 pub turned : (c : Config) (keys : List RootKeys) (s new : Desk) (a b : Option (List ℕ)) (w w' : Outside) (text answer : List ℕ) (reading : ℕ) → UsesUp a (Line text) b
-    → answer ≡ (reaction c keys s text (moment_of reading s.now)).text → new ≡ desk_then c keys s text reading → Told w.clock w'.clock (reading ∷ []) → Appends w.written w'.written (answer ++ 10 ∷ []) → Turns c keys a s w true b new w'
+    → answer ≡ answer_to c keys s text (moment_of reading s.now) → new ≡ desk_then c keys s text reading → Told w.clock w'.clock (reading ∷ []) → Appends w.written w'.written (answer ++ 10 ∷ []) → Turns c keys a s w true b new w'
 turned c keys s new a b w w' text answer reading u t st told p =
     let same = same_reaction c keys s text u.0 (moment_of reading s.now) u.2 in
-    let state : new ≡ desk_then c keys s u.0 reading = st ∙ ap (λ (r : Reaction). desk_with s r.made) same in
-    let said : answer ≡ (reaction c keys s u.0 (moment_of reading s.now)).text = t ∙ ap (λ (r : Reaction). r.text) same in
+    let state : new ≡ desk_then c keys s u.0 reading = st ∙ ap (λ (r : Reaction). desk_with s r.entry) same in
+    let said : answer ≡ answer_to c keys s u.0 (moment_of reading s.now) = t ∙ ap (λ (r : Reaction). r.answer) same in
     (u.0, reading, u.1, u.3, state, told, subst (λ (x : List ℕ). Appends w.written w'.written (x ++ 10 ∷ [])) said p)
 
 pub front_turned : (c : Config) (keys : List RootKeys) (s : Desk) (a b : Option (List ℕ)) (w w' : Outside) (text answer : List ℕ) (reading : ℕ) → UsesUp a (Line text) b
-    → answer ≡ (reaction c keys s text (moment_of reading s.now)).text → Told w.clock w'.clock (reading ∷ []) → AppendsFront w.written w'.written (answer ++ 10 ∷ []) → WritesFront c keys s a w w'
+    → answer ≡ answer_to c keys s text (moment_of reading s.now) → Told w.clock w'.clock (reading ∷ []) → AppendsFront w.written w'.written (answer ++ 10 ∷ []) → WritesFront c keys s a w w'
 front_turned c keys s a b w w' text answer reading u t told p =
     let same = same_reaction c keys s text u.0 (moment_of reading s.now) u.2 in
-    let said : answer ≡ (reaction c keys s u.0 (moment_of reading s.now)).text = t ∙ ap (λ (r : Reaction). r.text) same in
+    let said : answer ≡ answer_to c keys s u.0 (moment_of reading s.now) = t ∙ ap (λ (r : Reaction). r.answer) same in
     front_of_line c keys s a b w w' u.0 reading u.1 u.3 told (subst (λ (x : List ℕ). AppendsFront w.written w'.written (x ++ 10 ∷ [])) said p)
 
 -- no answer was made to a line

@@ -6,9 +6,8 @@ use Rattle.agreements.specs.LookUps.{keys_of}
 use Rattle.entries.specs.declared.entry.Entry.{Entry}
 use Rattle.entries.specs.declared.entry.Event.{Event}
 use Rattle.entries.specs.declared.entry.Event.TheVariants as event
-use Rattle.roam_core.specs.Desk.{Desk, desk_after, empty_desk}
-use Rattle.roam_core.specs.Lines.{Heard, desk_after_line, reaction}
-use Rattle.roam_core.specs.Moments.{moment_of}
+use Rattle.roam_core.specs.Desk.{Desk, desk_after, empty_desk, moment_of}
+use Rattle.roam_core.specs.Lines.{answer_to, state_after}
 
 -- the root keys of the tables' devices: they are read out of the tables here and nowhere else
 abbrev pub key_table : Config → List RootKeys
@@ -23,17 +22,13 @@ opened c text reading =
     let moment = moment_of reading (empty_desk c).now in
     desk_after (desk_after (empty_desk c) (entry_at moment (event.Tables text))) (entry_at moment event.Opened)
 
--- a line and its moment
-abbrev pub heard_at : Desk → List ℕ → ℕ → Heard
-heard_at s line reading = (line, moment_of reading s.now)
-
 -- the answer to one line, with its end
 abbrev pub answer_line : Config → List RootKeys → Desk → List ℕ → ℕ → List ℕ
-answer_line c keys s line reading = (reaction c keys s line (moment_of reading s.now)).text ++ 10 ∷ []
+answer_line c keys s line reading = answer_to c keys s line (moment_of reading s.now) ++ 10 ∷ []
 
 -- the desk that it leaves
 abbrev pub desk_then : Config → List RootKeys → Desk → List ℕ → ℕ → Desk
-desk_then c keys s line reading = desk_after_line c keys s (heard_at s line reading)
+desk_then c keys s line reading = state_after c keys s line (moment_of reading s.now)
 
 -- the answers to as many lines as the clock was read for, each at the desk that the lines before it leave
 abbrev pub output_of : Config → List RootKeys → Desk → List (List ℕ) → List ℕ → List ℕ

@@ -8,6 +8,7 @@ use Rattle.agreements.specs.Walk.{Config}
 use Rattle.wire_ids.specs.declared.keys.RootKeys.{RootKeys}
 use Rattle.entry_codec.specs.Machine.{Machine}
 use Rattle.roam_core.specs.Desk.{Desk, IsStateOf}
+use Rattle.roam_core.specs.Entering.{KnowsSenders}
 use Rattle.desk_top.specs.Output.{answer_line, desk_after_all, desk_then, output_of}
 
 -- what is told of the clock and of the output
@@ -80,6 +81,7 @@ Spends false before now = now ≤ before
 -- the state is one of these tables, whose history has begun, and there are numbers for so many entries more
 pub record IsOpen (c : Config) (most : ℕ) (m : Machine) : Type 0 where
   pub state : IsStateOf c m
+  pub senders : KnowsSenders c m
   pub begun : 0 < m.entries
   pub moment : m.moment ≤ 2 ^ 53
   pub room : m.entries + most < 2 ^ 63

@@ -2,9 +2,8 @@
 
 ghost use Rattle.std.specs.Prelude.{◌≡◌, ◌+◌, ◌^◌, ℕ, length, IsTrue, IfOk, OnOk, OnErr};
 ghost use Rattle.entry_codec.specs.Fits.{fits};
-ghost use Rattle.roam_core.specs.Desk.{desk_after, desk_of};
-ghost use Rattle.roam_core.specs.Lines.{reaction};
-ghost use Rattle.roam_core.specs.Moments.{moment_of};
+ghost use Rattle.roam_core.specs.Desk.{desk_after, desk_of, moment_of};
+ghost use Rattle.roam_core.specs.Lines.{answer_to};
 ghost use Rattle.desk_top.specs.Output.{desk_then, opened};
 ghost use Rattle.desk_top.specs.Turns.{IsOpen};
 
@@ -12,7 +11,7 @@ use agreements::Tables;
 use entries::{Entry, Event};
 use entry_codec::State;
 use key_vault::{BlockFn, Vault};
-use roam_core::{Reaction, react};
+use roam_core::{Reaction, knows_senders, react};
 use std::alloc::Global;
 use wire_ids::{LongText, Memory, Moment, Text};
 
@@ -49,6 +48,7 @@ pub(crate) fn open_state(
     ensures open { IfOk result (λ s. IsOpen tables.now (2 ^ 62) s.now) }
 {
     tables.devices();
+    knows_senders(tables);
     let mut state = State::new(alloc, tables)?;
     let moment = moment_of(&state, reading);
     let tables = Entry {
@@ -76,8 +76,8 @@ pub(crate) fn answer<E: BlockFn, D: BlockFn>(
 ) -> Result<Text, Memory>
     requires keys { length vault.now ≡ length tables.now.devices }
     requires open { IsOpen tables.now 0 state.old.now }
-    ensures text { IfOk result (λ t. t ≡ (reaction tables.now vault.now (desk_of state.old) line.now
-        (moment_of reading state.old.now)).text) }
+    ensures text { IfOk result (λ t. t ≡ answer_to tables.now vault.now (desk_of state.old) line.now
+        (moment_of reading state.old.now)) }
     ensures desk { OnOk result (desk_of state.new
         ≡ desk_then tables.now vault.now (desk_of state.old) line.now reading) }
     ensures memory { OnErr result (desk_of state.new ≡ desk_of state.old) }

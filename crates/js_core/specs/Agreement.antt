@@ -1,5 +1,6 @@
 -- The keys of an answer are those that the entitlement table gives its receiver, each wrapped under the KEK of its own label.
-use Rattle.std.specs.Prelude.{◌≡◌, ℕ, List, [], ◌++◌, filter, map, slice_get, All, Option, Some, None, codes}
+use Rattle.std.specs.Prelude.{◌≡◌, ℕ, List, [], ◌++◌, find, filter, map, All, Option, Some, None, option_map, true, codes}
+use Rattle.wire_ids.specs.declared.decision.Decision.TheVariants as decision
 use Rattle.wire_ids.specs.declared.keys.RootKeys.{RootKeys}
 use Rattle.wire_ids.specs.declared.keys.Seed.{Seed}
 use Rattle.wire_ids.specs.declared.party.Sender.{Sender}
@@ -7,7 +8,7 @@ use Rattle.wire_ids.specs.declared.party.Sender.TheVariants.{Network, Party}
 use Rattle.key_vault.specs.Keys.{app_session_key, network_keys}
 use Rattle.key_vault.specs.Table.{app_at, nwk_at}
 use Rattle.agreements.specs.Walk.{Config}
-use Rattle.agreements.specs.LookUps.{Belongs, device_place}
+use Rattle.agreements.specs.LookUps.{Belongs}
 use Rattle.agreements.specs.declared.rows.DeviceRow.{DeviceRow}
 use Rattle.agreements.specs.declared.rows.ApplicationRow.{ApplicationRow}
 use Rattle.agreements.specs.declared.rows.NetworkRow.{NetworkRow}
@@ -15,22 +16,26 @@ use Rattle.backend_json.specs.Keys.{KeyMember, key_member, key_members}
 use Rattle.backend_json.specs.declared.answer.Answer.{Answer}
 use Rattle.backend_json.specs.declared.answer.Answer.TheVariants.{Headed, Headless}
 use Rattle.backend_json.specs.declared.answer.AppSKeyAnswer.{AppSKeyAnswer}
-use Rattle.backend_json.specs.declared.answer.JoinAnswer.{JoinAnswer}
-use Rattle.backend_json.specs.declared.answer.Outcome.TheVariants.{AppSKeyAns, JoinAns, Refused}
+use Rattle.backend_json.specs.declared.answer.Outcome.{Outcome}
+use Rattle.backend_json.specs.declared.answer.Outcome.TheVariants.{AppSKeyAns, HomeNSAns, JoinAns, Refused, RejoinAns}
 use Rattle.backend_json.specs.declared.head.Head.{Head}
+use Rattle.backend_json.specs.declared.request.Request.{Request}
+use Rattle.backend_json.specs.declared.session.SessionKeyId.{SessionKeyId}
 use Rattle.entitlement.specs.Fields.{Envelope, fields_of}
 use Rattle.entitlement.specs.Fields as entitlement
-use Rattle.entitlement.specs.Keys.{Entry, KeyName, FNwkSIntKey, SNwkSIntKey, NwkSEncKey, AppSKey, LabelOwner, TheNetwork, TheApplication}
+use Rattle.entitlement.specs.Keys.{Entry, KeyName, FNwkSIntKey, SNwkSIntKey, NwkSEncKey, AppSKey, LabelOwner, TheNetwork, TheApplication, entitled}
+use Rattle.entitlement.specs.Roles.{role}
+use Rattle.entitlement.specs.declared.roles.AnswerKind.{AnswerKind}
 use Rattle.entitlement.specs.declared.roles.AnswerKind.TheVariants as answer
-use Rattle.js_core.specs.declared.decision.AcceptedJoin.{AcceptedJoin}
-use Rattle.js_core.specs.declared.decision.Decision.{Decision}
-use Rattle.js_core.specs.declared.decision.Decision.TheVariants as decision
-use Rattle.js_core.specs.declared.kept.KeptDevice.{KeptDevice}
-use Rattle.js_core.specs.declared.kept.KeptSeed.{KeptSeed}
-use Rattle.js_core.specs.Machine.{Machine}
-use Rattle.js_core.specs.Parties.{application_named, network_of}
-use Rattle.js_core.specs.Replies.{entries_for, is_app_s_key, is_nwk_s_enc_key, is_f_nwk_s_int_key, is_s_nwk_s_int_key, seed_with}
-use Rattle.js_core.specs.Step.{decided}
+use Rattle.entitlement.specs.declared.roles.Facts.{Facts}
+use Rattle.entry_codec.specs.Machine.{Machine, is_the_network, on_change}
+use Rattle.entry_codec.specs.declared.device.Device.{Device}
+use Rattle.entry_codec.specs.declared.device.Granted.{Granted}
+use Rattle.entry_codec.specs.declared.device.KeptSeed.{KeptSeed}
+use Rattle.entry_codec.specs.declared.device.LentTo.{LentTo}
+use Rattle.js_core.specs.Found.{Found, found_of}
+use Rattle.js_core.specs.Parties.{application_named, is_known, network_of}
+use Rattle.js_core.specs.Replies.{JsDecision, is_app_s_key, is_nwk_s_enc_key, is_f_nwk_s_int_key, is_s_nwk_s_int_key, js_decided, seed_with}
 
 -- ---- whose label, and which key
 
@@ -77,47 +82,49 @@ in_member_order entries = filter is_app_s_key entries ++ (filter is_f_nwk_s_int_
 abbrev pub entitled_fields : Config → List RootKeys → ℕ → DeviceRow → Sender → Seed → List Entry → List KeyMember
 entitled_fields c keys at row receiver seed entries = map member_of (fields_of (session_key keys at seed) (envelope_of c row receiver) (in_member_order entries))
 
--- ---- an answer agrees with the table
+-- ---- an answer agrees with the table in a state
 
--- the JoinAns of the join that was just accepted: the keys of its seed, for the role of its receiver. Its SessionKeyID
--- names the device and that seed's JoinNonce
-pub record JoinAgrees (c : Config) (keys : List RootKeys) (reply : Answer) (join : AcceptedJoin) : Type 0 where
-  pub head : Head
-  pub row : DeviceRow
-  pub members : JoinAnswer
-  pub is_answer : reply ≡ Headed head (JoinAns members)
-  pub is_row : slice_get c.devices join.device ≡ Some row
-  pub is_session : members.session_key_id ≡ record { dev_eui = row.dev_eui; join_nonce = join.seed.nonce }
-  pub fields : key_members reply ≡ entitled_fields c keys join.device row head.sender join.seed (entries_for row head.sender answer.JoinAns c.desk.lifetime_s)
+-- what the state has of a network's roaming with the device, at a moment
+abbrev pub facts_of : Sender → ℕ → Device → Facts
+facts_of sender now d = record {
+  lent = option_map (λ (l : LentTo). (l.net, l.until)) d.lent;
+  granted = option_map (λ (g : Granted). g.until) (find (λ (g : Granted). is_the_network sender g.net) d.granted.items);
+  now = record { 0 = now };
+}
 
--- an AppSKeyAns: the key of the kept seed that its SessionKeyID names, for the role of its receiver
-pub record AppSKeyAgrees (c : Config) (keys : List RootKeys) (m : Machine) (head : Head) (members : AppSKeyAnswer) : Type 0 where
-  pub at : ℕ
-  pub row : DeviceRow
-  pub kept : KeptDevice
+-- the keys to which the receiver is entitled, by its role in this state
+abbrev pub entitled_in : Found → Sender → ℕ → AnswerKind → ℕ → List Entry
+entitled_in f receiver now asked lifetime = entitled asked (role f.row (facts_of receiver now f.kept) receiver asked) f.row.carry_app lifetime
+
+-- the keys of an answer of this kind and Lifetime are those of the kept seed that its SessionKeyID names, for the role of its receiver
+pub record KeysAgree (c : Config) (keys : List RootKeys) (m : Machine) (now : ℕ) (asked : AnswerKind) (lifetime : ℕ) (head : Head) (outcome : Outcome) (id : SessionKeyId) : Type 0 where
+  pub device : Found
   pub seed : KeptSeed
-  pub is_session : members.session_key_id.dev_eui ≡ members.dev_eui
-  pub is_place : device_place members.dev_eui c.devices ≡ Some at
-  pub is_row : slice_get c.devices at ≡ Some row
-  pub is_kept : slice_get m.devices at ≡ Some kept
-  pub is_seed : seed_with members.session_key_id.join_nonce kept ≡ Some seed
-  pub fields : key_members (Headed head (AppSKeyAns members)) ≡ entitled_fields c keys at row head.sender seed.seed (entries_for row head.sender answer.AppSKeyAns 0)
+  pub is_found : found_of c m id.dev_eui ≡ Some device
+  pub is_seed : seed_with id.join_nonce device.kept ≡ Some seed
+  pub fields : key_members (Headed head outcome) ≡ entitled_fields c keys device.device device.row head.sender seed.seed (entitled_in device head.sender now asked lifetime)
 
--- a refusal has no key; a JoinAns comes with the join that it accepts
-abbrev pub ReplyAgrees : Config → List RootKeys → Machine → Answer → Type 0
-ReplyAgrees c keys m Headless = key_members Headless ≡ []
-ReplyAgrees c keys m (Headed head (Refused cause)) = key_members (Headed head (Refused cause)) ≡ []
-ReplyAgrees c keys m (Headed head (JoinAns members)) = ⊥
-ReplyAgrees c keys m (Headed head (AppSKeyAns members)) = AppSKeyAgrees c keys m head members
+abbrev pub HasNoKeys : Answer → Type 0
+HasNoKeys reply = key_members reply ≡ []
 
-abbrev pub Agrees : Config → List RootKeys → Machine → Decision → Type 0
-Agrees c keys m (decision.Reply reply) = ReplyAgrees c keys m reply
-Agrees c keys m (decision.Accept reply join) = JoinAgrees c keys reply join
+-- an answer agrees with the entitlement table in a state at a moment; what the table doesn't name has no key
+abbrev pub AnswerAgrees : Config → List RootKeys → Machine → ℕ → Answer → Type 0
+AnswerAgrees c keys m now Headless = HasNoKeys Headless
+AnswerAgrees c keys m now (Headed head (Refused cause)) = HasNoKeys (Headed head (Refused cause))
+AnswerAgrees c keys m now (Headed head (JoinAns members)) = KeysAgree c keys m now answer.JoinAns members.lifetime head (JoinAns members) members.session_key_id
+AnswerAgrees c keys m now (Headed head (RejoinAns members)) = KeysAgree c keys m now answer.RejoinAns members.lifetime head (RejoinAns members) members.session_key_id
+AnswerAgrees c keys m now (Headed head (AppSKeyAns members)) =
+    KeysAgree c keys m now answer.AppSKeyAns 0 head (AppSKeyAns members) members.session_key_id × (members.session_key_id.dev_eui ≡ members.dev_eui)
+AnswerAgrees c keys m now (Headed head (HomeNSAns members)) = HasNoKeys (Headed head (HomeNSAns members))
 
--- over these tables each answer agrees, whatever the root keys, the state and the line
-abbrev pub StepsAgree : Config → Type 0
-StepsAgree c = (keys : List RootKeys) (m : Machine) (line : List ℕ) → Agrees c keys m (decided c keys m line)
+-- an answer agrees in the state that its change leaves
+abbrev pub Agrees : Config → List RootKeys → Machine → ℕ → Sender → JsDecision → Type 0
+Agrees c keys m now sender (decision.Repeat text) = ⊥
+Agrees c keys m now sender (decision.Reply reply) = AnswerAgrees c keys m now reply
+Agrees c keys m now sender (decision.Accept reply change) = AnswerAgrees c keys (on_change sender change m) now reply
+Agrees c keys m now sender (decision.AskPeer peer question change) = ⊥
 
--- it is so over the tables of each valid text
+-- over the tables of each valid text the answer to each sender that has a row agrees, whatever the root keys, the state and the request
 abbrev pub AnswersAgree : Type 0
-AnswersAgree = (c : Config) → All (Belongs c.desk.net_id c.networks c.applications) c.devices → StepsAgree c
+AnswersAgree = (c : Config) (keys : List RootKeys) (m : Machine) (now : ℕ) (head : Head) (request : Request)
+    → All (Belongs c.desk.net_id c.networks c.applications) c.devices → is_known c head.sender ≡ true → Agrees c keys m now head.sender (js_decided c (nwk_at keys) (app_at keys) m head request)

@@ -1,24 +1,27 @@
 -- The AppKey of a device reaches no answer but those whose receiver is entitled to the device's AppSKey, and of these the AESKey of AppSKey alone.
 use Rattle.std.specs.Prelude.{◌≡◌, ℕ, ◌==◌, ◌&&◌, List, [], map, slice_get, Bool, false, Option, Some, None, option_map}
-use Rattle.std.specs.List.{AllZip, list_any}
+use Rattle.std.specs.List.{list_any}
 use Rattle.wire_ids.specs.Lists.{changed, holds_of}
+use Rattle.wire_ids.specs.declared.decision.Decision.TheVariants as decision
 use Rattle.wire_ids.specs.declared.eui.Eui.{Eui}
 use Rattle.wire_ids.specs.declared.party.Sender.{Sender}
+use Rattle.key_vault.specs.Table.{app_at, nwk_at}
 use Rattle.agreements.specs.Walk.{Config}
 use Rattle.agreements.specs.LookUps.{keys_of}
 use Rattle.agreements.specs.declared.rows.DeviceRow.{DeviceRow}
 use Rattle.backend_json.specs.declared.answer.Answer.{Answer}
 use Rattle.backend_json.specs.declared.answer.Answer.TheVariants.{Headed, Headless}
 use Rattle.backend_json.specs.declared.answer.AnswerKeys.{AnswerKeys}
+use Rattle.backend_json.specs.declared.answer.JoinAnswer.{JoinAnswer}
 use Rattle.backend_json.specs.declared.answer.KeyEnvelope.{KeyEnvelope}
 use Rattle.backend_json.specs.declared.answer.Outcome.{Outcome}
-use Rattle.backend_json.specs.declared.answer.Outcome.TheVariants.{AppSKeyAns, JoinAns, Refused}
+use Rattle.backend_json.specs.declared.answer.Outcome.TheVariants.{AppSKeyAns, HomeNSAns, JoinAns, Refused, RejoinAns}
 use Rattle.backend_json.specs.declared.head.Head.{Head}
+use Rattle.backend_json.specs.declared.request.Request.{Request}
 use Rattle.entitlement.specs.Keys.{Entry}
 use Rattle.entitlement.specs.declared.roles.AnswerKind.TheVariants as answer
-use Rattle.js_core.specs.Replies.{entries_for, is_app_s_key}
-use Rattle.js_core.specs.Runs.{answers, state_after_all}
-use Rattle.js_core.specs.Step.{fresh}
+use Rattle.entry_codec.specs.Machine.{Machine}
+use Rattle.js_core.specs.Replies.{JsDecision, entries_for, is_app_s_key, js_decided}
 
 -- ---- two tables that differ in one AppKey
 
@@ -35,7 +38,9 @@ with_app_key d key c = record c { devices = changed d (row_with_app_key key) c.d
 abbrev pub device_told : Outcome → Option Eui
 device_told (Refused cause) = None
 device_told (JoinAns members) = Some members.session_key_id.dev_eui
+device_told (RejoinAns members) = Some members.session_key_id.dev_eui
 device_told (AppSKeyAns members) = Some members.dev_eui
+device_told (HomeNSAns members) = None
 
 abbrev pub tells_of : Outcome → DeviceRow → Bool
 tells_of outcome row = holds_of (λ (dev : Eui). row.dev_eui.0 == dev.0) (device_told outcome)
@@ -44,7 +49,9 @@ tells_of outcome row = holds_of (λ (dev : Eui). row.dev_eui.0 == dev.0) (device
 abbrev pub entitled_by : Outcome → DeviceRow → Sender → List Entry
 entitled_by (Refused cause) row receiver = []
 entitled_by (JoinAns members) row receiver = entries_for row receiver answer.JoinAns members.lifetime
+entitled_by (RejoinAns members) row receiver = entries_for row receiver answer.RejoinAns members.lifetime
 entitled_by (AppSKeyAns members) row receiver = entries_for row receiver answer.AppSKeyAns 0
+entitled_by (HomeNSAns members) row receiver = []
 
 abbrev pub gives_app_s_key : Head → Outcome → DeviceRow → Bool
 gives_app_s_key head outcome row = tells_of outcome row && list_any is_app_s_key (entitled_by outcome row head.sender)
@@ -62,10 +69,15 @@ without_key envelope = record envelope { aes_key = [] }
 abbrev pub keys_without : AnswerKeys → AnswerKeys
 keys_without keys = record keys { app_s_key = option_map without_key keys.app_s_key }
 
+abbrev pub members_without : JoinAnswer → JoinAnswer
+members_without members = record members { keys = keys_without members.keys }
+
 abbrev pub outcome_without : Outcome → Outcome
 outcome_without (Refused cause) = Refused cause
-outcome_without (JoinAns members) = JoinAns (record members { keys = keys_without members.keys })
+outcome_without (JoinAns members) = JoinAns (members_without members)
+outcome_without (RejoinAns members) = RejoinAns (members_without members)
 outcome_without (AppSKeyAns members) = AppSKeyAns (record members { app_s_key = option_map without_key members.app_s_key })
+outcome_without (HomeNSAns members) = HomeNSAns members
 
 abbrev pub without_aes_key : Answer → Answer
 without_aes_key Headless = Headless
@@ -73,16 +85,20 @@ without_aes_key (Headed head outcome) = Headed head (outcome_without outcome)
 
 -- ---- the law
 
--- two answers to one line, over tables that differ in the AppKey of row d: the same but to those who are entitled to the
+-- two answers to one request, over tables that differ in the AppKey of row d: the same but to those who are entitled to the
 -- AppSKey, and to these too but for its AESKey
 pub record AnswersAlike (c : Config) (d : ℕ) (left right : Answer) : Type 0 where
   pub others : is_entitled c d left ≡ false → left ≡ right
   pub rest : without_aes_key left ≡ without_aes_key right
 
--- two runs over these tables and their root keys
-pub record RunsAlike (d : ℕ) (c c' : Config) (lines : List (List ℕ)) : Type 0 where
-  pub states : state_after_all c (map keys_of c.devices) (fresh c) lines ≡ state_after_all c' (map keys_of c'.devices) (fresh c') lines
-  pub replies : AllZip (AnswersAlike c d) (answers c (map keys_of c.devices) (fresh c) lines) (answers c' (map keys_of c'.devices) (fresh c') lines)
+-- what they change is the same
+abbrev pub DecisionsAlike : Config → ℕ → JsDecision → JsDecision → Type 0
+DecisionsAlike c d (decision.Reply left) (decision.Reply right) = AnswersAlike c d left right
+DecisionsAlike c d (decision.Accept left change) (decision.Accept right change') = AnswersAlike c d left right × (change ≡ change')
+DecisionsAlike c d _ _ = ⊥
 
 abbrev pub AppKeyStays : Type 0
-AppKeyStays = (c : Config) (d : ℕ) (key : List ℕ) (lines : List (List ℕ)) → RunsAlike d c (with_app_key d key c) lines
+AppKeyStays = (c : Config) (d : ℕ) (key : List ℕ) (m : Machine) (head : Head) (request : Request) →
+    let keys = map keys_of c.devices in
+    let keys' = map keys_of (with_app_key d key c).devices in
+    DecisionsAlike c d (js_decided c (nwk_at keys) (app_at keys) m head request) (js_decided (with_app_key d key c) (nwk_at keys') (app_at keys') m head request)

@@ -1,10 +1,8 @@
-pub mod Machine
 pub mod Parties
+pub mod Found
 pub mod Frames
+pub mod Steps
 pub mod Rules
 pub mod Replies
-pub mod Step
 pub mod Agreement
-pub mod Runs
 pub mod AppKey
-pub mod Issues

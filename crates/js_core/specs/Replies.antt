@@ -1,64 +1,64 @@
--- What a message is answered, and what it changes.
-use Rattle.std.specs.Prelude.{ℕ, ◌+◌, List, find, Option, Some, None, option_map, Bool, true, false, if◌then◌else◌, Result, Ok, Err}
+-- What a request is answered, and what it changes.
+use Rattle.std.specs.Prelude.{ℕ, ◌==◌, List, find, Option, Some, None, option_map, Bool, true, false, if◌then◌else◌}
 use Rattle.std.specs.List.{list_any}
-use Rattle.wire_ids.specs.Lists.{at_place}
-use Rattle.wire_ids.specs.Rules.{first_rule}
+use Rattle.wire_ids.specs.declared.decision.Decision.{Decision}
+use Rattle.wire_ids.specs.declared.decision.Decision.TheVariants as decision
 use Rattle.wire_ids.specs.declared.eui.Eui.{Eui}
 use Rattle.wire_ids.specs.declared.keys.Seed.{Seed}
+use Rattle.wire_ids.specs.declared.party.Sender.{Sender}
 use Rattle.key_wrap.specs.Wrap.{wrapped_key}
 use Rattle.key_vault.specs.Keys.{app_session_key, network_keys}
 use Rattle.join_frames.specs.Accepts.{accept_text}
 use Rattle.join_frames.specs.declared.accept.Accept.{Accept}
-use Rattle.join_frames.specs.declared.accept.AcceptKind.TheVariants.{Join}
+use Rattle.join_frames.specs.declared.accept.AcceptKind.{AcceptKind}
+use Rattle.join_frames.specs.declared.accept.AcceptKind.TheVariants as accept
+use Rattle.join_frames.specs.declared.join_up.JoinUp.{JoinUp}
+use Rattle.join_frames.specs.declared.join_up.JoinUp.TheVariants.{Join, Rejoin02, Rejoin1}
 use Rattle.agreements.specs.Walk.{Config}
-use Rattle.agreements.specs.LookUps.{device_place}
 use Rattle.agreements.specs.declared.rows.ApplicationRow.{ApplicationRow}
 use Rattle.agreements.specs.declared.rows.DeviceRow.{DeviceRow}
 use Rattle.agreements.specs.declared.rows.NetworkRow.{NetworkRow}
 use Rattle.backend_json.specs.declared.answer.Answer.{Answer}
-use Rattle.backend_json.specs.declared.answer.Answer.TheVariants.{Headed, Headless}
+use Rattle.backend_json.specs.declared.answer.Answer.TheVariants.{Headed}
 use Rattle.backend_json.specs.declared.answer.AnswerKeys.{AnswerKeys}
+use Rattle.backend_json.specs.declared.answer.JoinAnswer.{JoinAnswer}
 use Rattle.backend_json.specs.declared.answer.KeyEnvelope.{KeyEnvelope}
-use Rattle.backend_json.specs.declared.answer.Outcome.TheVariants.{AppSKeyAns, JoinAns, Refused}
+use Rattle.backend_json.specs.declared.answer.Outcome.{Outcome}
+use Rattle.backend_json.specs.declared.answer.Outcome.TheVariants.{AppSKeyAns, HomeNSAns, JoinAns, Refused, RejoinAns}
 use Rattle.backend_json.specs.declared.head.Head.{Head}
-use Rattle.backend_json.specs.declared.message.Bad.{Bad}
-use Rattle.backend_json.specs.declared.message.Bad.TheVariants as bad
-use Rattle.backend_json.specs.declared.message.Message.{Message}
 use Rattle.backend_json.specs.declared.refusal.Refusal.{Refusal}
 use Rattle.backend_json.specs.declared.refusal.Refusal.TheVariants as cause
 use Rattle.backend_json.specs.declared.request.AppSKeyRequest.{AppSKeyRequest}
 use Rattle.backend_json.specs.declared.request.JoinRequest.{JoinRequest}
 use Rattle.backend_json.specs.declared.request.Request.{Request}
-use Rattle.backend_json.specs.declared.request.Request.TheVariants.{AppSKeyReq, JoinReq, Unknown}
+use Rattle.backend_json.specs.declared.request.Request.TheVariants.{AppSKeyReq, HomeNSReq, JoinReq, RejoinReq, Unknown}
 use Rattle.entitlement.specs.declared.roles.AnswerKind.{AnswerKind}
 use Rattle.entitlement.specs.declared.roles.AnswerKind.TheVariants as answer
 use Rattle.entitlement.specs.declared.roles.Facts.{Facts}
 use Rattle.entitlement.specs.Keys.{Entry, FNwkSIntKey, SNwkSIntKey, NwkSEncKey, AppSKey, entitled}
 use Rattle.entitlement.specs.Roles.{role}
-use Rattle.wire_ids.specs.declared.party.Sender.{Sender}
-use Rattle.js_core.specs.declared.decision.Decision.{Decision}
-use Rattle.js_core.specs.declared.decision.Decision.TheVariants as decision
-use Rattle.js_core.specs.declared.frames.JoinFrame.{JoinFrame}
-use Rattle.js_core.specs.declared.kept.KeptDevice.{KeptDevice}
-use Rattle.js_core.specs.declared.kept.KeptSeed.{KeptSeed}
-use Rattle.js_core.specs.Frames.{join_frame_of}
-use Rattle.js_core.specs.Machine.{Machine}
+use Rattle.entries.specs.declared.change.Change.{Change}
+use Rattle.entry_codec.specs.Machine.{Machine}
+use Rattle.entry_codec.specs.declared.device.Device as device
+use Rattle.entry_codec.specs.declared.device.KeptSeed.{KeptSeed}
+use Rattle.js_core.specs.declared.activation.Activation.{Activation}
+use Rattle.js_core.specs.declared.activation.Activation.TheVariants as by
+use Rattle.js_core.specs.declared.question.NoQuestion.{NoQuestion}
+use Rattle.js_core.specs.Found.{Found, found_of}
+use Rattle.js_core.specs.Frames.{join_up_of}
 use Rattle.js_core.specs.Parties.{application_named, network_of}
-use Rattle.js_core.specs.Rules.{app_s_key_rules, has_nonce, is_spent, join_rules, unknown_rules}
+use Rattle.js_core.specs.Rules.{by_rules, has_nonce, rules_of}
+use Rattle.js_core.specs.Steps as step
+
+-- what the join server makes of a request: it asks no peer, and an answer comes with what it changes
+abbrev pub JsDecision : Type 0
+JsDecision = Decision Answer NoQuestion Change
 
 abbrev pub refused : Head → Refusal → Answer
 refused head cause = Headed head (Refused cause)
 
-abbrev pub bad_member : Option Head → Answer
-bad_member None = Headless
-bad_member (Some head) = refused head cause.Message
-
--- the answer to a body that is no readable message
-abbrev pub bad_answer : Bad → Answer
-bad_answer bad.NotJson = Headless
-bad_answer bad.TooLong = Headless
-bad_answer (bad.Member name head) = bad_member head
-bad_answer (bad.Version head) = refused head cause.Version
+abbrev pub refuses : Head → Refusal → JsDecision
+refuses head cause = decision.Reply (refused head cause)
 
 -- ---- the keys of an answer, each wrapped under the KEK of its label
 
@@ -102,7 +102,7 @@ answer_keys c nwk app row seed entries = record {
   app_s_key = application_key c app row seed entries;
 }
 
--- nothing of roaming is known of any device
+-- the roles of these answers' receivers stand in the device's row, whatever there is of roaming
 abbrev pub no_facts : Facts
 no_facts = record { lent = None; granted = None; now = record { 0 = 0 } }
 
@@ -110,15 +110,19 @@ no_facts = record { lent = None; granted = None; now = record { 0 = 0 } }
 abbrev pub entries_for : DeviceRow → Sender → AnswerKind → ℕ → List Entry
 entries_for row sender asked lifetime = entitled asked (role row no_facts sender asked) row.carry_app lifetime
 
--- ---- joins
+-- ---- joins and rejoins
 
--- the seed of the device's next activation: the JoinNonce after the last one (LoRaWAN 1.1, 6.2.3)
-abbrev pub next_seed : JoinFrame → DeviceRow → KeptDevice → Seed
-next_seed frame row kept = record { nonce = kept.last_join_nonce + 1; join_eui = row.join_eui; counter = frame.dev_nonce }
+abbrev pub rejoin_kind : ℕ → AcceptKind
+rejoin_kind kind = if kind == 0 then accept.Rejoin0 else accept.Rejoin2
 
-abbrev pub accept_of : JoinRequest → DeviceRow → Seed → Accept
-accept_of request row seed = record {
-  kind = Join;
+abbrev pub accept_kind : JoinUp → AcceptKind
+accept_kind (Join join_eui dev_eui nonce mic) = accept.Join
+accept_kind (Rejoin02 kind net dev_eui count mic) = rejoin_kind kind
+accept_kind (Rejoin1 join_eui dev_eui count mic) = accept.Rejoin1
+
+abbrev pub accept_of : JoinUp → JoinRequest → DeviceRow → Seed → Accept
+accept_of up request row seed = record {
+  kind = accept_kind up;
   dev = row.dev_eui;
   seed = seed;
   net = row.home;
@@ -126,72 +130,78 @@ accept_of request row seed = record {
   radio = request.radio;
 }
 
--- the answer to a join that is accepted
-unfoldable pub join_answer : Config → (ℕ → List ℕ) → (ℕ → List ℕ) → Head → JoinRequest → ℕ → DeviceRow → Seed → Answer
-join_answer c nwk app head request at row seed = Headed head (JoinAns (record {
-  phy_payload = accept_text (nwk at) (accept_of request row seed);
+abbrev pub answer_kind : Activation → AnswerKind
+answer_kind by.Join = answer.JoinAns
+answer_kind by.Rejoin = answer.RejoinAns
+
+abbrev pub outcome_of : Activation → JoinAnswer → Outcome
+outcome_of by.Join members = JoinAns members
+outcome_of by.Rejoin members = RejoinAns members
+
+-- the members of the answer to a join- or rejoin-request that is accepted
+unfoldable pub join_members : Config → List ℕ → List ℕ → Activation → Head → JoinRequest → JoinUp → DeviceRow → Seed → JoinAnswer
+join_members c nwk app activation head request up row seed = record {
+  phy_payload = accept_text nwk (accept_of up request row seed);
   lifetime = c.desk.lifetime_s;
-  keys = answer_keys c (nwk at) (app at) row seed (entries_for row head.sender answer.JoinAns c.desk.lifetime_s);
+  keys = answer_keys c nwk app row seed (entries_for row head.sender (answer_kind activation) c.desk.lifetime_s);
   session_key_id = record { dev_eui = row.dev_eui; join_nonce = seed.nonce };
-}))
+}
 
-abbrev pub accepted : Config → (ℕ → List ℕ) → (ℕ → List ℕ) → Head → JoinRequest → ℕ → DeviceRow → Seed → Decision
-accepted c nwk app head request at row seed =
-    decision.Accept (join_answer c nwk app head request at row seed) (record { device = at; seed = seed })
+abbrev pub accepted : Config → (ℕ → List ℕ) → (ℕ → List ℕ) → Activation → Head → JoinRequest → JoinUp → Found → JsDecision
+accepted c nwk app activation head request up f =
+    let s = step.step_of (nwk f.device) request.phy_payload up f.row f.kept in
+    decision.Accept (Headed head (outcome_of activation (join_members c (nwk f.device) (app f.device) activation head request up f.row s.seed))) (step.change_of f.device s)
 
--- where no rule holds, there is a frame, a row and a next JoinNonce
-abbrev pub join_success_at : Config → (ℕ → List ℕ) → (ℕ → List ℕ) → Head → JoinRequest → Option JoinFrame → Option ℕ → Option DeviceRow → Option KeptDevice → Decision
-join_success_at c nwk app head request (Some frame) (Some at) (Some row) (Some kept) =
-    if is_spent kept then decision.Reply (refused head cause.Spent) else accepted c nwk app head request at row (next_seed frame row kept)
-join_success_at c nwk app head request _ _ _ _ = decision.Reply (refused head cause.Device)
+-- where no rule holds, there are a frame and a device with a next JoinNonce
+abbrev pub join_success_at : Config → (ℕ → List ℕ) → (ℕ → List ℕ) → Activation → Head → JoinRequest → Option JoinUp → Option Found → JsDecision
+join_success_at c nwk app activation head request None found = refuses head cause.Frame
+join_success_at c nwk app activation head request (Some up) None = refuses head cause.Device
+join_success_at c nwk app activation head request (Some up) (Some f) =
+    if step.is_spent f.kept then refuses head cause.Spent else accepted c nwk app activation head request up f
 
-unfoldable pub join_success : Config → (ℕ → List ℕ) → (ℕ → List ℕ) → Machine → Head → JoinRequest → Decision
-join_success c nwk app m head request =
-    let at = device_place request.dev_eui c.devices in
-    join_success_at c nwk app head request (join_frame_of request.phy_payload) at (at_place c.devices at) (at_place m.devices at)
+unfoldable pub join_success : Config → (ℕ → List ℕ) → (ℕ → List ℕ) → Machine → Activation → Head → JoinRequest → JsDecision
+join_success c nwk app m activation head request = join_success_at c nwk app activation head request (join_up_of request.phy_payload) (found_of c m request.dev_eui)
 
 -- ---- an application asks for its key
 
-unfoldable pub app_s_key_answer : Config → (ℕ → List ℕ) → Head → AppSKeyRequest → ℕ → DeviceRow → Seed → Answer
-app_s_key_answer c app head request at row seed = Headed head (AppSKeyAns (record {
+unfoldable pub app_s_key_answer : Config → List ℕ → Head → AppSKeyRequest → DeviceRow → Seed → Answer
+app_s_key_answer c app head request row seed = Headed head (AppSKeyAns (record {
   dev_eui = request.dev_eui;
-  app_s_key = application_key c (app at) row seed (entries_for row head.sender answer.AppSKeyAns 0);
+  app_s_key = application_key c app row seed (entries_for row head.sender answer.AppSKeyAns 0);
   session_key_id = request.session_key_id;
 }))
 
 -- the kept seed with this JoinNonce
-abbrev pub seed_with : ℕ → KeptDevice → Option KeptSeed
+abbrev pub seed_with : ℕ → device.Device → Option KeptSeed
 seed_with nonce kept = find (has_nonce nonce) kept.seeds.items
 
-abbrev pub app_s_key_reply : Config → (ℕ → List ℕ) → Head → AppSKeyRequest → ℕ → DeviceRow → Seed → Decision
-app_s_key_reply c app head request at row seed = decision.Reply (app_s_key_answer c app head request at row seed)
+abbrev pub app_s_key_reply : Config → (ℕ → List ℕ) → Head → AppSKeyRequest → Found → Seed → JsDecision
+app_s_key_reply c app head request f seed = decision.Reply (app_s_key_answer c (app f.device) head request f.row seed)
 
-abbrev pub app_s_key_success_with : Config → (ℕ → List ℕ) → Head → AppSKeyRequest → ℕ → DeviceRow → Option KeptSeed → Decision
-app_s_key_success_with c app head request at row None = decision.Reply (refused head cause.Session)
-app_s_key_success_with c app head request at row (Some kept) = app_s_key_reply c app head request at row kept.seed
+abbrev pub app_s_key_success_with : Config → (ℕ → List ℕ) → Head → AppSKeyRequest → Found → Option KeptSeed → JsDecision
+app_s_key_success_with c app head request f None = refuses head cause.Session
+app_s_key_success_with c app head request f (Some kept) = app_s_key_reply c app head request f kept.seed
 
-abbrev pub app_s_key_success_at : Config → (ℕ → List ℕ) → Head → AppSKeyRequest → Option ℕ → Option DeviceRow → Option KeptDevice → Decision
-app_s_key_success_at c app head request (Some at) (Some row) (Some kept) =
-    app_s_key_success_with c app head request at row (seed_with request.session_key_id.join_nonce kept)
-app_s_key_success_at c app head request _ _ _ = decision.Reply (refused head cause.Device)
+abbrev pub app_s_key_success_at : Config → (ℕ → List ℕ) → Head → AppSKeyRequest → Option Found → JsDecision
+app_s_key_success_at c app head request None = refuses head cause.Device
+app_s_key_success_at c app head request (Some f) = app_s_key_success_with c app head request f (seed_with request.session_key_id.join_nonce f.kept)
 
-unfoldable pub app_s_key_success : Config → (ℕ → List ℕ) → Machine → Head → AppSKeyRequest → Decision
-app_s_key_success c app m head request =
-    let at = device_place request.dev_eui c.devices in
-    app_s_key_success_at c app head request at (at_place c.devices at) (at_place m.devices at)
+-- ---- a network asks for a device's home
 
--- ---- all messages
+abbrev pub home_ns_success_at : Head → Option Found → JsDecision
+home_ns_success_at head None = refuses head cause.Device
+home_ns_success_at head (Some f) = decision.Reply (Headed head (HomeNSAns (record { h_net_id = f.row.home })))
 
--- a request is refused for the first cause that holds, and else succeeds
-abbrev pub by_cause : Head → Option Refusal → Decision → Decision
-by_cause head (Some refusal) success = decision.Reply (refused head refusal)
-by_cause head None success = success
+-- ---- all requests of a join server
 
-unfoldable pub decision_on : Config → (ℕ → List ℕ) → (ℕ → List ℕ) → Machine → Head → Request → Decision
-decision_on c nwk app m head (JoinReq request) = by_cause head (first_rule (join_rules c nwk m head request)) (join_success c nwk app m head request)
-decision_on c nwk app m head (AppSKeyReq request) = by_cause head (first_rule (app_s_key_rules c m head request)) (app_s_key_success c app m head request)
-decision_on c nwk app m head Unknown = by_cause head (first_rule (unknown_rules c head)) (decision.Reply (refused head cause.«Type»))
+-- what a request comes to that no rule stands against
+unfoldable pub success_of : Config → (ℕ → List ℕ) → (ℕ → List ℕ) → Machine → Head → Request → JsDecision
+success_of c nwk app m head (JoinReq request) = join_success c nwk app m by.Join head request
+success_of c nwk app m head (RejoinReq request) = join_success c nwk app m by.Rejoin head request
+success_of c nwk app m head (AppSKeyReq request) = app_s_key_success_at c app head request (found_of c m request.dev_eui)
+success_of c nwk app m head (HomeNSReq request) = home_ns_success_at head (found_of c m request.dev_eui)
+success_of c nwk app m head Unknown = refuses head cause.«Type»
 
-abbrev pub decision_of : Config → (ℕ → List ℕ) → (ℕ → List ℕ) → Machine → Result Message Bad → Decision
-decision_of c nwk app m (Err bad) = decision.Reply (bad_answer bad)
-decision_of c nwk app m (Ok message) = decision_on c nwk app m message.head message.request
+-- from the rule of the frame's size on
+unfoldable pub js_decided : Config → (ℕ → List ℕ) → (ℕ → List ℕ) → Machine → Head → Request → JsDecision
+js_decided c nwk app m head request = by_rules (refuses head) (rules_of c nwk m head request) (success_of c nwk app m head request)

@@ -1,21 +1,11 @@
-//! The join server: what it keeps, in what order it refuses, and what it answers.
+//! The join server: in what order it refuses, and what it answers.
 #![tactic(auto)]
 
-mod decide;
-mod decision;
-mod frames;
-mod kept;
-mod keys;
-pub mod laws;
+mod activation;
 mod parties;
-mod rules;
-mod state;
+mod question;
 mod step;
-#[cfg(test)]
-mod tests;
 
-pub use decision::{AcceptedJoin, Decision};
-pub use frames::JoinFrame;
-pub use kept::{KeptDevice, KeptSeed};
-pub use state::State;
-pub use step::{answer, steps_agree};
+pub use activation::Activation;
+pub use question::NoQuestion;
+pub use step::JoinStep;

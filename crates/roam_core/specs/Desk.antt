@@ -1,5 +1,5 @@
 -- What the desk decides by.
-use Rattle.std.specs.Prelude.{◌≡◌, List, map, Option, Some, None, Bool}
+use Rattle.std.specs.Prelude.{◌≡◌, ℕ, ◌^◌, max, min, List, map, Option, Some, None, Bool}
 use Rattle.wire_ids.specs.declared.eui.Eui.{Eui}
 use Rattle.agreements.specs.Walk.{Config}
 use Rattle.entries.specs.declared.entry.Entry.{Entry}
@@ -29,6 +29,10 @@ desk_after s e = record { now = after s.now e; kept = kept_after s.now s.kept e 
 abbrev pub desk_with : Desk → Option Entry → Desk
 desk_with s None = s
 desk_with s (Some e) = desk_after s e
+
+-- the moment at which a line is decided, where the clock reads this one: at most 2^53, and not before that of the last entry
+abbrev pub moment_of : ℕ → Machine → ℕ
+moment_of reading m = max (min reading (2 ^ 53)) m.moment
 
 -- what no entry changes of a device
 pub record Named : Type 0 where

@@ -1,4 +1,10 @@
+pub mod Order
 pub mod Desk
-pub mod Moments
+pub mod Decided
+pub mod Texts
 pub mod Lines
+pub mod Legal
 pub mod Entering
+pub mod Agreement
+pub mod AppKey
+pub mod Issues

@@ -1,6 +1,11 @@
-//! The whole decision of the desk on a request, and what a line comes to.
+//! The whole decision on a request, and what a line comes to: its answer, and its entry.
 #![tactic(auto)]
 
+mod decide;
+pub mod laws;
 mod reaction;
+mod senders;
 
+pub use decide::{RoamDecision, roam_decide};
 pub use reaction::{Reaction, react};
+pub use senders::knows_senders;

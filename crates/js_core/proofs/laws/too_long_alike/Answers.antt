@@ -1,5 +1,0 @@
-use Rattle.js_core.proofs.Long.{too_long_alike}
-use Rattle.js_core.proofs.laws.too_long_alike.Goals as goal
-
-pub returns : goal.returns
-returns c = too_long_alike

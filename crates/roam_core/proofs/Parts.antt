@@ -1,0 +1,25 @@
+-- The join server's part of the order, and the order's numbers.
+use Rattle.std.proofs.Common.{◌≡◌, ◌<◌, ℕ, List, None, false, refl, arith}
+use Rattle.agreements.specs.Walk.{Config}
+use Rattle.backend_json.specs.Refusals.{row_of}
+use Rattle.backend_json.specs.declared.head.Head.{Head}
+use Rattle.backend_json.specs.declared.request.Request.{Request}
+use Rattle.backend_json.specs.declared.request.Request.TheVariants.{AppSKeyReq, HomeNSReq, JoinReq, RejoinReq, Unknown}
+use Rattle.entry_codec.specs.Machine.{Machine}
+use Rattle.js_core.specs.Replies.{js_decided, success_of}
+use Rattle.js_core.specs.Rules.{join_rules, rules_of}
+use Rattle.roam_core.specs.Decided.{JoinServersPart, judged_at}
+use Rattle.roam_core.specs.Order.{NumbersRise, order}
+
+pub join_servers_part : JoinServersPart
+unfolding order js_decided rules_of join_rules success_of
+join_servers_part c nwk app m head (JoinReq request) known here may = rw (known, here, may) refl
+join_servers_part c nwk app m head (RejoinReq request) known here may = rw (known, here, may) refl
+join_servers_part c nwk app m head (AppSKeyReq request) known here may = rw (known, here, may) refl
+join_servers_part c nwk app m head (HomeNSReq request) known here may = rw (known, here, may) refl
+join_servers_part c nwk app m head Unknown known here may = rw (known, here, may) refl
+
+pub numbers_rise : NumbersRise
+unfolding order row_of
+numbers_rise c nwk m head request kept asked =
+    (omega arith, refl, (omega arith, refl, (omega arith, refl, (omega arith, refl, (omega arith, refl, (omega arith, refl, (omega arith, refl, (omega arith, refl, (omega arith, refl, (omega arith, refl, (omega arith, refl, (omega arith, refl, (omega arith, refl, (omega arith, refl, (omega arith, refl, tt)))))))))))))))

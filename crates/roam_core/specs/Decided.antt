@@ -1,0 +1,61 @@
+-- What a request comes to, from the rule of its sender on.
+use Rattle.std.specs.Prelude.{◌≡◌, ℕ, List, [], Option, Some, None, Bool, false, unwrap_or}
+use Rattle.wire_ids.specs.declared.decision.Decision.{Decision}
+use Rattle.wire_ids.specs.declared.decision.Decision.TheVariants as decision
+use Rattle.agreements.specs.Walk.{Config}
+use Rattle.backend_json.specs.Answers.{text_of}
+use Rattle.backend_json.specs.declared.answer.Answer.{Answer}
+use Rattle.backend_json.specs.declared.head.Head.{Head}
+use Rattle.backend_json.specs.declared.request.Request.{Request}
+use Rattle.entries.specs.declared.change.Change.{Change}
+use Rattle.entries.specs.declared.entry.Entry.{Entry}
+use Rattle.entries.specs.declared.entry.Event.TheVariants as event
+use Rattle.entry_codec.specs.Kept.{kept_answer}
+use Rattle.entry_codec.specs.LookUps.{is_asked}
+use Rattle.entry_codec.specs.Machine.{Machine, lapse}
+use Rattle.js_core.specs.declared.question.NoQuestion.{NoQuestion}
+use Rattle.js_core.specs.Replies.{JsDecision, js_decided, refused, success_of}
+use Rattle.roam_core.specs.Desk.{Desk}
+use Rattle.roam_core.specs.Order.{Verdict, Refused, Kept, by_order, order, wrong_receiver, wrong_sender, wrong_type}
+
+-- what a request comes to: an answer, with the entry that it makes
+abbrev pub RoamDecision : Type 0
+RoamDecision = Decision Answer NoQuestion Entry
+
+-- ---- the answer, and what changes
+
+abbrev pub said : Head → Option (List ℕ) → Verdict → JsDecision
+said head kept (Refused cause) = decision.Reply (refused head cause)
+said head kept Kept = decision.Repeat (unwrap_or kept [])
+
+-- of a request in a state in which what has ended is gone, of which an answer was kept or not, and whose body an open ask has or not
+abbrev pub judged_at : Config → (ℕ → List ℕ) → (ℕ → List ℕ) → Machine → Head → Request → Option (List ℕ) → Bool → JsDecision
+judged_at c nwk app m head request kept asked = by_order (said head kept) (order c nwk m head request kept asked) (success_of c nwk app m head request)
+
+-- ---- the entry, which is made in this place alone
+
+abbrev pub entry_in : Head → List ℕ → ℕ → Answer → Change → Entry
+entry_in head body now answer change = record {
+  moment = record { 0 = now };
+  event = event.Kept (record { sender = head.sender; body = body; answer = text_of answer }) change;
+}
+
+abbrev pub with_entry : Head → List ℕ → ℕ → JsDecision → RoamDecision
+with_entry head body now (decision.Repeat text) = decision.Repeat text
+with_entry head body now (decision.Reply answer) = decision.Reply answer
+with_entry head body now (decision.Accept answer change) = decision.Accept answer (entry_in head body now answer change)
+with_entry head body now (decision.AskPeer peer question change) = elim question [ ]
+
+-- ---- the decision: first what has ended goes
+
+unfoldable pub decided : Config → (ℕ → List ℕ) → (ℕ → List ℕ) → Desk → Head → Request → List ℕ → ℕ → RoamDecision
+decided c nwk app s head request body now =
+    let m = lapse now s.now in
+    with_entry head body now (judged_at c nwk app m head request (kept_answer head.sender body s.kept) (is_asked body m))
+
+-- ---- the join server's part
+
+-- a request that no line before the frame's size stands against comes to what the join server makes of it
+abbrev pub JoinServersPart : Type 0
+JoinServersPart = (c : Config) (nwk app : ℕ → List ℕ) (m : Machine) (head : Head) (request : Request) → wrong_sender c head ≡ false → wrong_receiver c head ≡ false → wrong_type c head ≡ false
+    → judged_at c nwk app m head request None false ≡ js_decided c nwk app m head request

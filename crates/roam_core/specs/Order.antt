@@ -1,0 +1,164 @@
+-- The order in which a request is looked at, line by line: the first line that holds gives its answer. A type that a line doesn't
+-- speak of passes it.
+use Rattle.std.specs.Prelude.{◌≡◌, ℕ, ◌<◌, List, [], ◌∷◌, Option, Some, None, Bool, false, is_none, is_some, not, if◌then◌else◌}
+use Rattle.agreements.specs.Walk.{Config}
+use Rattle.backend_json.specs.Refusals.{number_of}
+use Rattle.backend_json.specs.Types.{receiver_of, sender_of}
+use Rattle.backend_json.specs.declared.head.Head.{Head}
+use Rattle.backend_json.specs.declared.refusal.Refusal.{Refusal}
+use Rattle.backend_json.specs.declared.refusal.Refusal.TheVariants.{Sender, Receiver, «Type», Asked, Size, Frame, Device, Home, Suspended, Eui, Mic, Counter, Spent, Session}
+use Rattle.backend_json.specs.declared.request.Request.{Request}
+use Rattle.backend_json.specs.declared.request.Request.TheVariants.{AppSKeyReq, HomeNSReq, JoinReq, RejoinReq, Unknown}
+use Rattle.entry_codec.specs.Machine.{Machine}
+use Rattle.js_core.specs.declared.activation.Activation.TheVariants as by
+use Rattle.js_core.specs.Found.{Found, found_of}
+use Rattle.js_core.specs.Frames.{join_up_of, wrong_frame, wrong_size}
+use Rattle.js_core.specs.Parties.{is_known, may_send, reaches}
+use Rattle.js_core.specs.Rules as js
+
+-- what a line comes to, where it holds: the request is refused, or gets the answer that was kept for it
+pub data Verdict : Type 0 where
+  Refused : Refusal → Verdict
+  Kept : Verdict
+
+pub record Line : Type 0 where
+  pub number : ℕ
+  pub verdict : Verdict
+  pub holds : Bool
+
+abbrev pub refuses : ℕ → Refusal → Bool → Line
+refuses number cause holds = record { number = number; verdict = Refused cause; holds = holds }
+
+-- ---- one test for each line
+
+abbrev pub wrong_sender : Config → Head → Bool
+wrong_sender c head = not (is_known c head.sender)
+
+abbrev pub wrong_receiver : Config → Head → Bool
+wrong_receiver c head = not (reaches c (receiver_of head.message_type) head.receiver)
+
+abbrev pub wrong_type : Config → Head → Bool
+wrong_type c head = not (may_send c (sender_of head.message_type) head.sender)
+
+abbrev pub size : Request → Bool
+size (JoinReq request) = wrong_size request.phy_payload
+size (RejoinReq request) = wrong_size request.phy_payload
+size (AppSKeyReq request) = false
+size (HomeNSReq request) = false
+size Unknown = false
+
+abbrev pub frame : Request → Bool
+frame (JoinReq request) = wrong_frame by.Join request (join_up_of request.phy_payload)
+frame (RejoinReq request) = wrong_frame by.Rejoin request (join_up_of request.phy_payload)
+frame (AppSKeyReq request) = false
+frame (HomeNSReq request) = false
+frame Unknown = false
+
+-- the device that a request names
+abbrev pub device_of : Config → Machine → Request → Option Found
+device_of c m (JoinReq request) = found_of c m request.dev_eui
+device_of c m (RejoinReq request) = found_of c m request.dev_eui
+device_of c m (AppSKeyReq request) = found_of c m request.dev_eui
+device_of c m (HomeNSReq request) = found_of c m request.dev_eui
+device_of c m Unknown = None
+
+abbrev pub device : Head → Option Found → Request → Bool
+device head found (JoinReq request) = is_none found
+device head found (RejoinReq request) = is_none found
+device head found (AppSKeyReq request) = js.wrong_app head found
+device head found (HomeNSReq request) = is_none found
+device head found Unknown = false
+
+abbrev pub home : Head → Option Found → Request → Bool
+home head found (JoinReq request) = js.wrong_home head found
+home head found (RejoinReq request) = js.wrong_home head found
+home head found (AppSKeyReq request) = false
+home head found (HomeNSReq request) = false
+home head found Unknown = false
+
+abbrev pub suspended : Option Found → Request → Bool
+suspended found (JoinReq request) = js.is_suspended found
+suspended found (RejoinReq request) = js.is_suspended found
+suspended found (AppSKeyReq request) = false
+suspended found (HomeNSReq request) = false
+suspended found Unknown = false
+
+abbrev pub eui : Option Found → Request → Bool
+eui found (JoinReq request) = js.wrong_eui (join_up_of request.phy_payload) found
+eui found (RejoinReq request) = js.wrong_eui (join_up_of request.phy_payload) found
+eui found (AppSKeyReq request) = false
+eui found (HomeNSReq request) = false
+eui found Unknown = false
+
+abbrev pub mic : (ℕ → List ℕ) → Option Found → Request → Bool
+mic nwk found (JoinReq request) = js.wrong_mic nwk request.phy_payload (join_up_of request.phy_payload) found
+mic nwk found (RejoinReq request) = js.wrong_mic nwk request.phy_payload (join_up_of request.phy_payload) found
+mic nwk found (AppSKeyReq request) = false
+mic nwk found (HomeNSReq request) = false
+mic nwk found Unknown = false
+
+abbrev pub counter : (ℕ → List ℕ) → Option Found → Request → Bool
+counter nwk found (JoinReq request) = js.low_counter nwk request.phy_payload (join_up_of request.phy_payload) found
+counter nwk found (RejoinReq request) = js.low_counter nwk request.phy_payload (join_up_of request.phy_payload) found
+counter nwk found (AppSKeyReq request) = false
+counter nwk found (HomeNSReq request) = false
+counter nwk found Unknown = false
+
+abbrev pub spent : Option Found → Request → Bool
+spent found (JoinReq request) = js.is_spent found
+spent found (RejoinReq request) = js.is_spent found
+spent found (AppSKeyReq request) = false
+spent found (HomeNSReq request) = false
+spent found Unknown = false
+
+abbrev pub session : Option Found → Request → Bool
+session found (JoinReq request) = false
+session found (RejoinReq request) = false
+session found (AppSKeyReq request) = js.wrong_session request found
+session found (HomeNSReq request) = false
+session found Unknown = false
+
+-- ---- the order
+
+-- the lines for a request of which an answer was kept or not, whose body an open ask has or not, and which names this device
+abbrev pub order_at : Config → (ℕ → List ℕ) → Head → Request → Option (List ℕ) → Bool → Option Found → List Line
+order_at c nwk head request kept asked found =
+    refuses 3 Sender (wrong_sender c head)
+    ∷ refuses 4 Receiver (wrong_receiver c head)
+    ∷ refuses 5 «Type» (wrong_type c head)
+    ∷ record { number = 6; verdict = Kept; holds = is_some kept }
+    ∷ refuses 7 Asked asked
+    ∷ refuses 8 Size (size request)
+    ∷ refuses 9 Frame (frame request)
+    ∷ refuses 10 Device (device head found request)
+    ∷ refuses 12 Home (home head found request)
+    ∷ refuses 13 Suspended (suspended found request)
+    ∷ refuses 18 Eui (eui found request)
+    ∷ refuses 19 Mic (mic nwk found request)
+    ∷ refuses 20 Counter (counter nwk found request)
+    ∷ refuses 21 Spent (spent found request)
+    ∷ refuses 27 Session (session found request)
+    ∷ []
+
+unfoldable pub order : Config → (ℕ → List ℕ) → Machine → Head → Request → Option (List ℕ) → Bool → List Line
+order c nwk m head request kept asked = order_at c nwk head request kept asked (device_of c m request)
+
+-- the first line that holds is said, and else the request succeeds
+abbrev pub by_order : {D : Type 0} → (Verdict → D) → List Line → D → D
+by_order said [] success = success
+by_order said (l ∷ ls) success = if l.holds then said l.verdict else by_order said ls success
+
+-- ---- the order's numbers
+
+abbrev pub IsNumbered : ℕ → Verdict → Type 0
+IsNumbered number (Refused cause) = number_of cause ≡ Some number
+IsNumbered number Kept = number ≡ 6
+
+-- they rise, and each refusal has its own in the table of refusals
+abbrev pub IsOrderedFrom : ℕ → List Line → Type 0
+IsOrderedFrom least [] = Unit {0}
+IsOrderedFrom least (l ∷ ls) = (least < l.number) × IsNumbered l.number l.verdict × IsOrderedFrom l.number ls
+
+abbrev pub NumbersRise : Type 0
+NumbersRise = (c : Config) (nwk : ℕ → List ℕ) (m : Machine) (head : Head) (request : Request) (kept : Option (List ℕ)) (asked : Bool)
+    → IsOrderedFrom 2 (order c nwk m head request kept asked)

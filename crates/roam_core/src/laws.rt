@@ -1,0 +1,38 @@
+//! Laws of the desk: each is a sentence over the definitions alone.
+
+ghost use Rattle.roam_core.specs.Decided.{JoinServersPart};
+ghost use Rattle.roam_core.specs.Entering.{EntriesFit, RepliesKeep, StatesStay};
+ghost use Rattle.roam_core.specs.Lines.{TooLongAlike};
+ghost use Rattle.roam_core.specs.Order.{NumbersRise};
+
+/// The numbers of the order rise, and each refusal has its own in the table of refusals.
+pub fn numbers_rise()
+    ensures { NumbersRise }
+{}
+
+/// A request that no line of the order before the frame's size stands against comes to what the
+/// join server makes of it.
+pub fn join_servers_part()
+    ensures { JoinServersPart }
+{}
+
+/// The entry that a line makes fits the state in which it is made.
+pub fn entries_fit()
+    ensures { EntriesFit }
+{}
+
+/// The first state is one of its tables, and every entry leaves it so.
+pub fn states_stay()
+    ensures { StatesStay }
+{}
+
+/// A refusal, a kept answer, and an answer that gives no session make no entry and change nothing.
+pub fn replies_keep()
+    ensures { RepliesKeep }
+{}
+
+/// A line above the limit of 8,192 bytes is answered as its first 8,193 bytes are, and makes no
+/// entry.
+pub fn too_long_alike()
+    ensures { TooLongAlike }
+{}

@@ -1,0 +1,9 @@
+mod Sets
+mod Sessions
+mod Lapsing
+mod JoinFrames
+mod Causes
+mod Order
+mod Cases
+mod Changes
+mod Agreeing

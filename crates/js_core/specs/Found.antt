@@ -6,6 +6,7 @@ use Rattle.agreements.specs.LookUps.{device_place}
 use Rattle.agreements.specs.declared.rows.DeviceRow.{DeviceRow}
 use Rattle.entry_codec.specs.Machine.{Machine}
 use Rattle.entry_codec.specs.declared.device.Device.{Device}
+use Rattle.js_core.specs.declared.found.FoundDevice.{FoundDevice}
 
 -- its number in the tables, its row there, and what is kept of it
 pub record Found : Type 0 where
@@ -25,3 +26,7 @@ found_at c m (Some device) = found_with device (slice_get c.devices device) (sli
 -- the device with this DevEUI, which has a row; the state has a device for each row
 unfoldable pub found_of : Config → Machine → Eui → Option Found
 found_of c m dev = found_at c m (device_place dev c.devices)
+
+-- the same of the device that the code found
+abbrev pub found_now : FoundDevice → Found
+found_now f = record { device = f.number; row = f.row.now; kept = f.kept.now }

@@ -60,6 +60,12 @@ join_up_of frame =
     if is_rejoin02 frame then Some (rejoin02_of frame) else (
     if is_rejoin1 frame then Some (rejoin1_of frame) else None))
 
+-- how many bytes such a frame has
+abbrev pub frame_size : JoinUp → ℕ
+frame_size (Join join_eui dev_eui nonce mic) = 23
+frame_size (Rejoin02 kind net dev_eui count mic) = 19
+frame_size (Rejoin1 join_eui dev_eui count mic) = 24
+
 -- DevNonce, RJcount0 or RJcount1
 abbrev pub counter_of : JoinUp → ℕ
 counter_of (Join join_eui dev_eui nonce mic) = nonce

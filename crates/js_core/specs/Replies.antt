@@ -149,7 +149,7 @@ join_members c nwk app activation head request up row seed = record {
 
 abbrev pub accepted : Config → (ℕ → List ℕ) → (ℕ → List ℕ) → Activation → Head → JoinRequest → JoinUp → Found → JsDecision
 accepted c nwk app activation head request up f =
-    let s = step.step_of (nwk f.device) request.phy_payload up f.row f.kept in
+    let s = step.step_of (nwk f.device) request.phy_payload up f.kept in
     decision.Accept (Headed head (outcome_of activation (join_members c (nwk f.device) (app f.device) activation head request up f.row s.seed))) (step.change_of f.device s)
 
 -- where no rule holds, there are a frame and a device with a next JoinNonce
@@ -195,7 +195,7 @@ home_ns_success_at head (Some f) = decision.Reply (Headed head (HomeNSAns (recor
 -- ---- all requests of a join server
 
 -- what a request comes to that no rule stands against
-unfoldable pub success_of : Config → (ℕ → List ℕ) → (ℕ → List ℕ) → Machine → Head → Request → JsDecision
+abbrev pub success_of : Config → (ℕ → List ℕ) → (ℕ → List ℕ) → Machine → Head → Request → JsDecision
 success_of c nwk app m head (JoinReq request) = join_success c nwk app m by.Join head request
 success_of c nwk app m head (RejoinReq request) = join_success c nwk app m by.Rejoin head request
 success_of c nwk app m head (AppSKeyReq request) = app_s_key_success_at c app head request (found_of c m request.dev_eui)

@@ -95,7 +95,7 @@ home_ns_rules_at found = record { cause = Device; holds = is_none found } ∷ []
 abbrev pub unknown_rules : List (Rule Refusal)
 unknown_rules = record { cause = «Type»; holds = true } ∷ []
 
-unfoldable pub rules_of : Config → (ℕ → List ℕ) → Machine → Head → Request → List (Rule Refusal)
+abbrev pub rules_of : Config → (ℕ → List ℕ) → Machine → Head → Request → List (Rule Refusal)
 rules_of c nwk m head (JoinReq request) = join_rules c nwk m by.Join head request
 rules_of c nwk m head (RejoinReq request) = join_rules c nwk m by.Rejoin head request
 rules_of c nwk m head (AppSKeyReq request) = app_s_key_rules_at head request (found_of c m request.dev_eui)

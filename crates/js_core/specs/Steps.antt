@@ -12,6 +12,7 @@ use Rattle.entries.specs.declared.change.Change.{Change}
 use Rattle.entries.specs.declared.change.Change.TheVariants as change
 use Rattle.entries.specs.declared.used_seed.UsedSeed.{UsedSeed}
 use Rattle.entries.specs.declared.used_seed.UsedSeed.TheVariants as used
+use Rattle.entry_codec.specs.Devices.{seed_of}
 use Rattle.entry_codec.specs.declared.device.Device.{Device}
 use Rattle.entry_codec.specs.declared.device.KeptSeed.{KeptSeed}
 use Rattle.js_core.specs.declared.step.JoinStep.{JoinStep}
@@ -47,11 +48,15 @@ abbrev pub is_not_above : ℕ → Option ℕ → Bool
 is_not_above n None = false
 is_not_above n (Some last) = nat_le n last
 
+-- the counter of a frame that uses the kept seed in this place isn't above the last one
+abbrev pub low_counter_at : Option ℕ → JoinUp → Device → Bool
+low_counter_at place (Join join_eui dev_eui nonce mic) kept = is_not_above nonce kept.dev_nonce
+low_counter_at place (Rejoin02 kind net dev_eui count mic) kept = holds_of (λ (s : KeptSeed). is_not_above count s.rj_count0) (at_place kept.seeds.items place)
+low_counter_at place (Rejoin1 join_eui dev_eui count mic) kept = is_not_above count kept.rj_count1
+
 -- its counter isn't above the last one: DevNonce, RJcount0 of the used seed, or RJcount1
 abbrev pub low_counter : List ℕ → List ℕ → JoinUp → Device → Bool
-low_counter nwk frame (Join join_eui dev_eui nonce mic) kept = is_not_above nonce kept.dev_nonce
-low_counter nwk frame (Rejoin02 kind net dev_eui count mic) kept = holds_of (λ (s : KeptSeed). is_not_above count s.rj_count0) (at_place kept.seeds.items (seed_place nwk frame kept))
-low_counter nwk frame (Rejoin1 join_eui dev_eui count mic) kept = is_not_above count kept.rj_count1
+low_counter nwk frame up kept = low_counter_at (seed_place nwk frame kept) up kept
 
 -- the last JoinNonce was given out
 abbrev pub is_spent : Device → Bool
@@ -63,18 +68,22 @@ is_spent kept = kept.join_nonce == 16777215
 abbrev pub rejoin_seed : ℕ → ℕ → UsedSeed
 rejoin_seed kind place = if kind == 0 then used.Rejoin0 place else used.Rejoin2 place
 
--- the seed that is used, with the type of the rejoin-request; a join-request uses none
+-- the kept seed in this place, with the type of the rejoin-request; a join-request uses none
+abbrev pub used_seed_at : Option ℕ → JoinUp → Option UsedSeed
+used_seed_at place (Join join_eui dev_eui nonce mic) = None
+used_seed_at place (Rejoin02 kind net dev_eui count mic) = option_map (rejoin_seed kind) place
+used_seed_at place (Rejoin1 join_eui dev_eui count mic) = Some used.Rejoin1
+
+-- the seed that is used
 abbrev pub used_seed : List ℕ → List ℕ → JoinUp → Device → Option UsedSeed
-used_seed nwk frame (Join join_eui dev_eui nonce mic) kept = None
-used_seed nwk frame (Rejoin02 kind net dev_eui count mic) kept = option_map (rejoin_seed kind) (seed_place nwk frame kept)
-used_seed nwk frame (Rejoin1 join_eui dev_eui count mic) kept = Some used.Rejoin1
+used_seed nwk frame up kept = used_seed_at (seed_place nwk frame kept) up
 
--- the seed of the new session: the JoinNonce after the last one, and the request's counter
-abbrev pub next_seed : JoinUp → DeviceRow → Device → Seed
-next_seed up row kept = record { nonce = kept.join_nonce + 1; join_eui = row.join_eui; counter = counter_of up }
+-- the seed of the new session: the JoinNonce after the last one, the device's JoinEUI and the request's counter
+abbrev pub next_seed : JoinUp → Device → Seed
+next_seed up kept = seed_of (counter_of up) (kept.join_nonce + 1) kept
 
-abbrev pub step_of : List ℕ → List ℕ → JoinUp → DeviceRow → Device → JoinStep
-step_of nwk frame up row kept = record { used = used_seed nwk frame up kept; seed = next_seed up row kept }
+abbrev pub step_of : List ℕ → List ℕ → JoinUp → Device → JoinStep
+step_of nwk frame up kept = record { used = used_seed nwk frame up kept; seed = next_seed up kept }
 
 abbrev pub change_by : Option UsedSeed → ℕ → Seed → Change
 change_by None device seed = change.Join (record { device = device; counter = seed.counter; join_nonce = seed.nonce; own = None })

@@ -2,10 +2,17 @@
 #![tactic(auto)]
 
 mod activation;
+mod decide;
+mod found;
+mod frames;
+mod keys;
 mod parties;
 mod question;
+mod rules;
 mod step;
 
 pub use activation::Activation;
+pub use decide::{JsDecision, js_decide, refused};
+pub use parties::{is_known, may_send, reaches};
 pub use question::NoQuestion;
 pub use step::JoinStep;

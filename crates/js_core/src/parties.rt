@@ -9,7 +9,7 @@ use wire_ids::{Eui, NetId, PeerId, Sender};
 
 /// Whether the sender has a row: a network, or an application or a gateway.
 #[tactic(auto, unfolding(crate::specs::Parties::is_known))]
-pub(crate) fn is_known(tables: &Tables, sender: Sender) -> bool
+pub fn is_known(tables: &Tables, sender: Sender) -> bool
     ensures { result ≡ is_known tables.now sender }
 {
     match sender {
@@ -20,7 +20,7 @@ pub(crate) fn is_known(tables: &Tables, sender: Sender) -> bool
 
 /// Whether the receiver is the desk, by a name of this kind.
 #[tactic(auto, unfolding(crate::specs::Parties::reaches))]
-pub(crate) fn reaches(tables: &Tables, kind: ReceiverKind, receiver: PeerId) -> bool
+pub fn reaches(tables: &Tables, kind: ReceiverKind, receiver: PeerId) -> bool
     ensures { result ≡ reaches tables.now kind receiver }
 {
     match receiver {
@@ -34,7 +34,7 @@ pub(crate) fn reaches(tables: &Tables, kind: ReceiverKind, receiver: PeerId) -> 
 
 /// Whether the sender is of this kind.
 #[tactic(auto, unfolding(crate::specs::Parties::may_send))]
-pub(crate) fn may_send(tables: &Tables, kind: SenderKind, sender: Sender) -> bool
+pub fn may_send(tables: &Tables, kind: SenderKind, sender: Sender) -> bool
     ensures { result ≡ may_send tables.now kind sender }
 {
     match kind {

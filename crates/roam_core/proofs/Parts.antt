@@ -6,13 +6,13 @@ use Rattle.backend_json.specs.declared.head.Head.{Head}
 use Rattle.backend_json.specs.declared.request.Request.{Request}
 use Rattle.backend_json.specs.declared.request.Request.TheVariants.{AppSKeyReq, HomeNSReq, JoinReq, RejoinReq, Unknown}
 use Rattle.entry_codec.specs.Machine.{Machine}
-use Rattle.js_core.specs.Replies.{js_decided, success_of}
-use Rattle.js_core.specs.Rules.{join_rules, rules_of}
+use Rattle.js_core.specs.Replies.{js_decided}
+use Rattle.js_core.specs.Rules.{join_rules}
 use Rattle.roam_core.specs.Decided.{JoinServersPart, judged_at}
 use Rattle.roam_core.specs.Order.{NumbersRise, order}
 
 pub join_servers_part : JoinServersPart
-unfolding order js_decided rules_of join_rules success_of
+unfolding order js_decided join_rules
 join_servers_part c nwk app m head (JoinReq request) known here may = rw (known, here, may) refl
 join_servers_part c nwk app m head (RejoinReq request) known here may = rw (known, here, may) refl
 join_servers_part c nwk app m head (AppSKeyReq request) known here may = rw (known, here, may) refl

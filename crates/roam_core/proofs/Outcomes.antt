@@ -1,6 +1,5 @@
--- What a decision may be.
-use Rattle.std.proofs.Common.{◌≡◌, ℕ, List, [], ◌∷◌, Bool, true, false, cond, Option, Some, None, Result, Ok, Err, refl, sym, ap, ◌∙◌, subst}
-use Rattle.std.specs.List.{AllByRecursion}
+-- What a line comes to: a refusal, a kept answer, or what the join server makes of it.
+use Rattle.std.proofs.Common.{◌≡◌, ℕ, List, [], ◌∷◌, Bool, true, false, not, is_some, Option, Some, None, Result, Ok, Err, refl, sym, ◌∙◌, subst}
 use Rattle.wire_ids.specs.Decisions.{entry_of}
 use Rattle.wire_ids.specs.declared.decision.Decision.TheVariants as decision
 use Rattle.wire_ids.specs.declared.keys.RootKeys.{RootKeys}
@@ -12,58 +11,70 @@ use Rattle.backend_json.specs.declared.head.Head.{Head}
 use Rattle.backend_json.specs.declared.message.Bad.{Bad}
 use Rattle.backend_json.specs.declared.message.Message.{Message}
 use Rattle.backend_json.specs.declared.refusal.Refusal.{Refusal}
+use Rattle.backend_json.specs.declared.refusal.Refusal.TheVariants.{Sender, Receiver, «Type», Asked}
 use Rattle.backend_json.specs.declared.request.Request.{Request}
 use Rattle.entries.specs.declared.change.Change.{Change}
 use Rattle.entries.specs.declared.entry.Entry.{Entry}
 use Rattle.entry_codec.specs.Kept.{kept_answer}
 use Rattle.entry_codec.specs.LookUps.{is_asked}
 use Rattle.entry_codec.specs.Machine.{Machine, lapse}
-use Rattle.js_core.specs.Replies.{JsDecision, success_of}
-use Rattle.roam_core.specs.Decided.{RoamDecision, decided, entry_in, judged_at, said, with_entry}
+use Rattle.js_core.specs.Parties.{is_known}
+use Rattle.js_core.specs.Replies.{JsDecision, js_decided, refuses, success_of}
+use Rattle.roam_core.specs.Decided.{decided, entry_in, judged_at, said, with_entry}
 use Rattle.roam_core.specs.Desk.{Desk}
 use Rattle.roam_core.specs.Lines.{decided_of, line_decided}
-use Rattle.roam_core.specs.Order.{Kept, Line, Refused, Verdict, by_order, order}
+use Rattle.roam_core.specs.Order.{Kept, Line, by_order, order, wrong_receiver, wrong_sender, wrong_type}
+use Rattle.roam_core.specs.Order.{refuses as refuses_by}
+use Rattle.roam_core.proofs.Parts.{join_servers_part}
 
--- what holds of all that the lines say, and of success, holds of the decision
-pub by_order_is : {D : Type 0} (P : D → Type 0) (say : Verdict → D) (lines : List Line) (success : D) → ((v : Verdict) → P (say v)) → P success → P (by_order say lines success)
-by_order_is P say [] success f s = s
-by_order_is P say (l ∷ ls) success f s = elim l.holds as (λ b. P (cond b (say l.verdict) (by_order say ls success))) [
-  | true ↦ f l.verdict
-  | false ↦ by_order_is P say ls success f s
-]
+not_not : (b : Bool) → not b ≡ false → b ≡ true
+not_not true h = refl
+not_not false h = absurd cc
 
-abbrev pub NotHeld : Line → Type 0
-NotHeld l = l.holds ≡ false
+-- what holds of a refusal, of the kept answer, and of what the join server makes of a known sender's request
+pub record HoldsOfAll (c : Config) (nwk app : ℕ → List ℕ) (m : Machine) (head : Head) (request : Request) (kept : Option (List ℕ)) (P : JsDecision → Type 0) : Type 0 where
+  pub refusal : (why : Refusal) → P (refuses head why)
+  pub repeat : (text : List ℕ) → kept ≡ Some text → P (decision.Repeat text)
+  pub decides : is_known c head.sender ≡ true → P (js_decided c nwk app m head request)
 
--- a request is accepted where no line holds, by its success
-record Passed (lines : List Line) (success : JsDecision) (answer : Answer) (change : Change) : Type 0 where
-  pub none : AllByRecursion NotHeld lines
-  pub succeeds : success ≡ decision.Accept answer change
+-- the lines before the frame's size
+abbrev front : Bool → Bool → Bool → Option (List ℕ) → Bool → List Line → List Line
+front unknown away wrong kept asked rest =
+    refuses_by 3 Sender unknown ∷ refuses_by 4 Receiver away ∷ refuses_by 5 «Type» wrong ∷ record { number = 6; verdict = Kept; holds = is_some kept } ∷ refuses_by 7 Asked asked ∷ rest
 
-no_acceptance : (head : Head) (kept : Option (List ℕ)) (v : Verdict) (answer : Answer) (change : Change) {X : Type 0} → said head kept v ≡ decision.Accept answer change → X
-no_acceptance head kept (Refused cause) answer change e = cc
-no_acceptance head kept Kept answer change e = cc
+passed : (head : Head) (unknown away wrong : Bool) (rest : List Line) (success : JsDecision) → unknown ≡ false → away ≡ false → wrong ≡ false
+    → by_order (said head None) (front unknown away wrong None false rest) success ≡ by_order (said head None) rest success
+passed head true away wrong rest success a b c = absurd cc
+passed head false true wrong rest success a b c = absurd cc
+passed head false false true rest success a b c = absurd cc
+passed head false false false rest success a b c = refl
 
-passed : (head : Head) (kept : Option (List ℕ)) (lines : List Line) (success : JsDecision) (answer : Answer) (change : Change) → by_order (said head kept) lines success ≡ decision.Accept answer change → Passed lines success answer change
-passed head kept [] success answer change e = record { none = tt; succeeds = e }
-passed head kept (l ∷ ls) success answer change e = by l.holds refl
-  where
-    by : (b : Bool) → l.holds ≡ b → Passed (l ∷ ls) success answer change
-    by true is = no_acceptance head kept l.verdict answer change (sym (ap (λ (b : Bool). cond b (said head kept l.verdict) (by_order (said head kept) ls success)) is) ∙ e)
-    by false is =
-        let rest = passed head kept ls success answer change (sym (ap (λ (b : Bool). cond b (said head kept l.verdict) (by_order (said head kept) ls success)) is) ∙ e) in
-        record { none = (is, rest.none); succeeds = rest.succeeds }
+front_is : (head : Head) (P : JsDecision → Type 0) (unknown away wrong : Bool) (kept : Option (List ℕ)) (asked : Bool) (rest : List Line) (success : JsDecision)
+    → ((why : Refusal) → P (refuses head why)) → ((text : List ℕ) → kept ≡ Some text → P (decision.Repeat text)) → (unknown ≡ false → away ≡ false → wrong ≡ false → P (by_order (said head None) rest success))
+    → P (by_order (said head kept) (front unknown away wrong kept asked rest) success)
+front_is head P true away wrong kept asked rest success refusal repeat decides = refusal Sender
+front_is head P false true wrong kept asked rest success refusal repeat decides = refusal Receiver
+front_is head P false false true kept asked rest success refusal repeat decides = refusal «Type»
+front_is head P false false false (Some text) asked rest success refusal repeat decides = repeat text refl
+front_is head P false false false None true rest success refusal repeat decides = refusal Asked
+front_is head P false false false None false rest success refusal repeat decides = decides refl refl refl
+
+pub judged_is : (c : Config) (nwk app : ℕ → List ℕ) (m : Machine) (head : Head) (request : Request) (P : JsDecision → Type 0) (kept : Option (List ℕ)) (asked : Bool) → HoldsOfAll c nwk app m head request kept P → P (judged_at c nwk app m head request kept asked)
+unfolding order
+judged_is c nwk app m head request P kept asked holds =
+    front_is head P (wrong_sender c head) (wrong_receiver c head) (wrong_type c head) kept asked _ (success_of c nwk app m head request) holds.refusal holds.repeat
+    (λ known here may. subst P (sym (join_servers_part c nwk app m head request known here may) ∙ passed head (wrong_sender c head) (wrong_receiver c head) (wrong_type c head) _ (success_of c nwk app m head request) known here may) (holds.decides (not_not (is_known c head.sender) known)))
 
 -- ---- what makes an entry
 
 -- the acceptance of a request makes the entry
-record Made (head : Head) (body : List ℕ) (now : ℕ) (d : JsDecision) (e : Entry) : Type 0 where
+pub record Made (head : Head) (body : List ℕ) (now : ℕ) (d : JsDecision) (e : Entry) : Type 0 where
   pub answer : Answer
   pub change : Change
   pub accepts : d ≡ decision.Accept answer change
   pub is : e ≡ entry_in head body now answer change
 
-made : (head : Head) (body : List ℕ) (now : ℕ) (d : JsDecision) (e : Entry) → entry_of (with_entry head body now d) ≡ Some e → Made head body now d e
+pub made : (head : Head) (body : List ℕ) (now : ℕ) (d : JsDecision) (e : Entry) → entry_of (with_entry head body now d) ≡ Some e → Made head body now d e
 made head body now (decision.Repeat text) e h = absurd cc
 made head body now (decision.Reply answer) e h = absurd cc
 made head body now (decision.Accept answer change) e h = record { answer = answer; change = change; accepts = refl; is = cc }
@@ -75,31 +86,26 @@ pub record Accepted (c : Config) (keys : List RootKeys) (s : Desk) (body : List 
   pub request : Request
   pub answer : Answer
   pub change : Change
-  pub is_message : message_of body ≡ Ok (record { head = head; request = request })
   pub is_entry : e ≡ entry_in head body now answer change
-  pub none : AllByRecursion NotHeld (order c (nwk_at keys) (lapse now s.now) head request (kept_answer head.sender body s.kept) (is_asked body (lapse now s.now)))
-  pub succeeds : success_of c (nwk_at keys) (app_at keys) (lapse now s.now) head request ≡ decision.Accept answer change
+  pub is_decision : line_decided c keys s body now ≡ decision.Accept answer e
+  pub accepts : judged_at c (nwk_at keys) (app_at keys) (lapse now s.now) head request (kept_answer head.sender body s.kept) (is_asked body (lapse now s.now)) ≡ decision.Accept answer change
 
-accepted_from : (c : Config) (keys : List RootKeys) (s : Desk) (body : List ℕ) (now : ℕ) (e : Entry) (r : Result Message Bad) → message_of body ≡ r → entry_of (decided_of c (nwk_at keys) (app_at keys) s body now r) ≡ Some e → Accepted c keys s body now e
+accepted_from : (c : Config) (keys : List RootKeys) (s : Desk) (body : List ℕ) (now : ℕ) (e : Entry) (r : Result Message Bad) → line_decided c keys s body now ≡ decided_of c (nwk_at keys) (app_at keys) s body now r
+    → entry_of (decided_of c (nwk_at keys) (app_at keys) s body now r) ≡ Some e → Accepted c keys s body now e
 unfolding decided
 accepted_from c keys s body now e (Err fault) is h = absurd cc
 accepted_from c keys s body now e (Ok message) is h =
     let head = message.head in
     let m = lapse now s.now in
-    let kept = kept_answer head.sender body s.kept in
-    let lines = order c (nwk_at keys) m head message.request kept (is_asked body m) in
-    let success = success_of c (nwk_at keys) (app_at keys) m head message.request in
-    let entry = made head body now (judged_at c (nwk_at keys) (app_at keys) m head message.request kept (is_asked body m)) e h in
-    let pass = passed head kept lines success entry.answer entry.change entry.accepts in
+    let entry = made head body now (judged_at c (nwk_at keys) (app_at keys) m head message.request (kept_answer head.sender body s.kept) (is_asked body m)) e h in
     record {
       head = head;
       request = message.request;
       answer = entry.answer;
       change = entry.change;
-      is_message = is;
       is_entry = entry.is;
-      none = pass.none;
-      succeeds = pass.succeeds;
+      is_decision = rw (is, entry.accepts, entry.is) refl;
+      accepts = entry.accepts;
     }
 
 pub accepted : (c : Config) (keys : List RootKeys) (s : Desk) (body : List ℕ) (now : ℕ) (e : Entry) → entry_of (line_decided c keys s body now) ≡ Some e → Accepted c keys s body now e

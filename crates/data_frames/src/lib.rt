@@ -14,4 +14,4 @@ pub use count::full_count;
 pub use downlink::{Down, write_down};
 pub use mic::{mic_f_ok, mic_up_ok};
 pub use sending::{UpParts, up_bytes};
-pub use uplink::{DataUp, read_data};
+pub use uplink::{DataUp, is_data_sized, read_data};

@@ -25,7 +25,9 @@ pub struct DataUp<'a> {
     pub whole: &'a [u8],
 }
 
-fn is_data_sized(frame: &[u8]) -> bool
+/// Whether a frame has a size of data frames: 12 to 255 bytes, with room for FOpts, of which the
+/// byte at 5 tells the length, before the four bytes of the MIC (LoRaWAN 1.1, 4.3.1).
+pub fn is_data_sized(frame: &[u8]) -> bool
     ensures { result ≡ is_data_sized frame.now }
 {
     if frame.len() < 12 || frame.len() > 255 {

@@ -237,7 +237,7 @@ module _ (c : Config) (keys : List RootKeys) (m : Machine) (now : ℕ) (head : H
           is_found = rw same is.is_found;
           is_seed = is.is_seed;
           fields = app_s_key_written _ _ ∙ (app_s_key_fields c keys f.device f.row seed.seed head.sender there
-          ∙ ap (entitled_fields c keys f.device f.row head.sender seed.seed) (sym (app_s_key_entries f.row (facts_of head.sender now f.kept) head.sender)));
+              ∙ ap (entitled_fields c keys f.device f.row head.sender seed.seed) (sym (app_s_key_entries f.row (facts_of head.sender now f.kept) head.sender)));
         },
         same,
       )

@@ -1,9 +1,11 @@
 mod Sets
 mod Sessions
-mod Lapsing
+pub mod Lapsing
 mod JoinFrames
-mod Causes
+pub mod Causes
 mod Order
-mod Cases
-mod Changes
-mod Agreeing
+pub mod Cases
+pub mod Changes
+pub mod Agreeing
+pub mod Unread
+pub mod AppKeys

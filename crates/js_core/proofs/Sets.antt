@@ -32,10 +32,6 @@ flags false false true false = (refl, refl, refl, refl)
 flags false false false true = (refl, refl, refl, refl)
 flags false false false false = (refl, refl, refl, refl)
 
-pub key_of_set : (c : Config) (app : List ℕ) (row : DeviceRow) (seed : Seed) (set : KeySet)
-    → application_key c app row seed (entries_of set) ≡ where_set set.app (for_application c row.app (app_session_key app seed))
-key_of_set c app row seed set = rw ((flags set.f set.s set.e set.app).3) refl
-
 pub keys_of_set : (c : Config) (nwk app : List ℕ) (row : DeviceRow) (seed : Seed) (set : KeySet)
     → answer_keys c nwk app row seed (entries_of set) ≡ (record {
       f_nwk_s_int_key = where_set set.f (for_network c row.home (network_keys nwk seed).f);

@@ -3,28 +3,17 @@
 ghost use Rattle.std.specs.Prelude.{◌≡◌, ◌<◌, length, is_none, IfSome, Some};
 ghost use Rattle.std.specs.List.{list_all};
 ghost use Rattle.std.specs.Char.{is_ascii_digit};
-ghost use Rattle.data_frames.specs.DataForms.{is_data_sized};
 ghost use Rattle.js_core.specs.Frames.{counter_of, dev_eui_of, frame_size, is_asked_by};
 ghost use Rattle.js_core.specs.Frames.{is_cf_list, is_dl_settings, is_mac_version, is_sized_as};
 ghost use Rattle.js_core.specs.Frames.{join_up_of, wrong_frame, wrong_member, wrong_size};
 
 use crate::Activation;
 use backend_json::JoinRequest;
+use data_frames::is_data_sized;
 use join_frames::{JoinUp, read_up};
 use wire_ids::Eui;
 
 // ---- sizes
-
-// Whether the frame has a size of data frames.
-fn is_data_sized(frame: &[u8]) -> bool
-    ensures { result ≡ is_data_sized frame.now }
-{
-    if frame.len() < 12 || frame.len() > 255 {
-        return false;
-    }
-    let f_opts_len = usize::from(frame[5] % 16);
-    12 + f_opts_len <= frame.len()
-}
 
 // Whether the frame has a size of this message type.
 fn is_sized_as(kind: u8, frame: &[u8]) -> bool
@@ -155,8 +144,8 @@ fn wrong_member(request: &JoinRequest, up: &JoinUp) -> bool
         || request.dev_eui.0 != dev_eui(up).0
 }
 
-/// The join- or rejoin-request of a message, and None where its frame is none of the message's type,
-/// or a member doesn't go with it.
+/// The join- or rejoin-request of a message, and None where its frame is none of the message's
+/// type, or a member doesn't go with it.
 #[tactic(auto, unfolding(crate::specs::Frames::wrong_frame))]
 pub(crate) fn fitting_frame(activation: Activation, request: &JoinRequest) -> Option<JoinUp>
     ensures fields { IfSome result (λ up. join_up_of request.now.phy_payload ≡ Some up) }

@@ -88,7 +88,7 @@ fn for_network<'a, E: BlockFn, D: BlockFn>(
 }
 
 /// The set's key for the device's application. It is derived only where the set has it.
-#[tactic(auto, unfolding(crate::specs::Replies::for_application), using(crate::proofs::Sets::key_of_set))]
+#[tactic(auto, unfolding(crate::specs::Replies::for_application))]
 pub(crate) fn application_key<'a, E: BlockFn, D: BlockFn>(
     tables: &'a Tables,
     vault: &Vault<E, D>,

@@ -6,6 +6,7 @@ mod decide;
 mod found;
 mod frames;
 mod keys;
+pub mod laws;
 mod parties;
 mod question;
 mod rules;

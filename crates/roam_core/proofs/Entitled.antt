@@ -9,7 +9,7 @@ use Rattle.wire_ids.specs.declared.keys.RootKeys.{RootKeys}
 use Rattle.wire_ids.specs.declared.party.Sender.{Sender}
 use Rattle.key_vault.specs.Table.{app_at, nwk_at}
 use Rattle.agreements.specs.Walk.{Config}
-use Rattle.backend_json.proofs.KeysWritten.{none_written}
+use Rattle.backend_json.proofs.KeysWritten.{headless_written, none_written}
 use Rattle.backend_json.specs.Answers.{text_of}
 use Rattle.backend_json.specs.Messages.{message_of}
 use Rattle.backend_json.specs.declared.answer.Answer.{Answer}
@@ -101,12 +101,12 @@ entry_agrees c keys s head body now (decision.Accept reply change) a =
     let l = lapse now s.now in
     let who = wakes (entry_in head body now reply change).event l in
     agrees_entered c keys (on_change head.sender change (wake who l)) now now reply (a who)
-entry_agrees c keys s head body now (decision.AskPeer peer question change) a = elim question []
+entry_agrees c keys s head body now (decision.AskPeer peer question change) a = elim question [ ]
 
 bad_agrees : (c : Config) (keys : List RootKeys) (m : Machine) (now : ℕ) (fault : Bad) → AnswerAgrees c keys m now (bad_answer fault)
-bad_agrees c keys m now bad.NotJson = refl
-bad_agrees c keys m now bad.TooLong = refl
-bad_agrees c keys m now (bad.Member name None) = refl
+bad_agrees c keys m now bad.NotJson = headless_written
+bad_agrees c keys m now bad.TooLong = headless_written
+bad_agrees c keys m now (bad.Member name None) = headless_written
 bad_agrees c keys m now (bad.Member name (Some head)) = none_written head cause.Message
 bad_agrees c keys m now (bad.Version head) = none_written head cause.Version
 
@@ -130,14 +130,14 @@ AllKept P kept = AllByRecursion (λ (k : KeptAnswers). AllByRecursion (λ (p : K
 
 find_all : {X : Type 0} (P : X → Type 0) (test : X → Bool) (xs : List X) (x : X) → AllByRecursion P xs → find test xs ≡ Some x → P x
 find_all P test [] x all e = cc
-find_all P test (y ∷ ys) x all e = by (test y) refl
+find_all P test (y ∷ ys) x all e = by (test y) refl (find_all P test ys x all.1)
   where
-    by : (b : Bool) → test y ≡ b → P x
-    by true is =
+    by : (b : Bool) → test y ≡ b → (find test ys ≡ Some x → P x) → P x
+    by true is rest =
         let same : Some y ≡ Some x = sym (ap (λ (b : Bool). cond b (Some y) (find test ys)) is) ∙ e in
         let here : y ≡ x = cc in
         subst P here all.0
-    by false is = find_all P test ys x all.1 (sym (ap (λ (b : Bool). cond b (Some y) (find test ys)) is) ∙ e)
+    by false is rest = rest (sym (ap (λ (b : Bool). cond b (Some y) (find test ys)) is) ∙ e)
 
 kept_gives : (P : List ℕ → Type 0) (sender : Sender) (body text : List ℕ) (kept : List KeptAnswers) → AllKept P kept → kept_answer sender body kept ≡ Some text → P text
 kept_gives P sender body text kept all e = by (find (is_of sender) kept) refl e
@@ -247,7 +247,7 @@ module _ (c : Config) (keys : List RootKeys) (valid : AreValid c) where
   kept_by_entry history head body now (decision.Repeat text) k = k
   kept_by_entry history head body now (decision.Reply reply) k = tt
   kept_by_entry history head body now (decision.Accept reply change) k = tt
-  kept_by_entry history head body now (decision.AskPeer peer question change) k = elim question []
+  kept_by_entry history head body now (decision.AskPeer peer question change) k = elim question [ ]
 
   judged_kept : (history : List Entry) (m : Machine) (head : Head) (request : Request) (body : List ℕ) (kept : List KeptAnswers) (asked : Bool) → AllKept (WasEntitled c keys history) kept
       → IsKeptAs history (judged_at c (nwk_at keys) (app_at keys) m head request (kept_answer head.sender body kept) asked)

@@ -49,7 +49,7 @@ kept_by_entry : (head : Head) (body : List ℕ) (now : ℕ) (s : Desk) (d : JsDe
 kept_by_entry head body now s (decision.Repeat text) g e = refl
 kept_by_entry head body now s (decision.Reply answer) g e = refl
 kept_by_entry head body now s (decision.Accept answer change) g e = cc
-kept_by_entry head body now s (decision.AskPeer peer question change) g e = elim question []
+kept_by_entry head body now s (decision.AskPeer peer question change) g e = elim question [ ]
 
 keeps : (c : Config) (keys : List RootKeys) (s : Desk) (body : List ℕ) (now : ℕ) (r : Result Message Bad) → enters (decided_of c (nwk_at keys) (app_at keys) s body now r) ≡ false → desk_with s (entry_of (decided_of c (nwk_at keys) (app_at keys) s body now r)) ≡ s
 unfolding decided

@@ -4,6 +4,7 @@ use Rattle.std.proofs.lemmas.Bool.{eqb-true, eq-eqb}
 use Rattle.std.proofs.lemmas.List.Folds.{list_any-append}
 use Rattle.std.specs.List.{AllByRecursion, list_any}
 use Rattle.std.specs.Prelude.{IsTrue, find, is_some, nat_lt, slice_get}
+use Rattle.wire_ids.specs.declared.eui.Eui.{Eui}
 use Rattle.wire_ids.specs.declared.party.Sender.{Sender}
 use Rattle.wire_ids.specs.declared.party.Sender.TheVariants.{Network, Party}
 use Rattle.agreements.specs.LookUps.{application_row, network_row}
@@ -16,7 +17,7 @@ use Rattle.agreements.proofs.Belonging.{is_some-find}
 use Rattle.agreements.proofs.Distinct.{list_any-map}
 use Rattle.entry_codec.specs.Empty.{application_sender, empty, gateway_sender, in_order, names_of, network_sender, put_sender, put_senders, sender_number, senders_of}
 use Rattle.entry_codec.specs.LookUps.{is_same_sender, is_sender}
-use Rattle.entry_codec.specs.Ordered.{put_in}
+use Rattle.entry_codec.proofs.Ordered.{all_put}
 use Rattle.js_core.specs.Parties.{application_named, is_known, network_of}
 use Rattle.roam_core.specs.Entering.{KnowsSenders}
 
@@ -53,37 +54,37 @@ abbrev has : Sender → List Sender → Bool
 has t ss = list_any (is_same_sender t) ss
 
 -- one that was put in is there
-put_is_there : (t s : Sender) → is_same_sender t s ≡ true → (ss : List Sender) → has t (put_sender s ss) ≡ true
-put_is_there t s e [] = first_true (is_same_sender t s) false e
-put_is_there t s e (x ∷ xs) = elim (nat_lt (sender_number x) (sender_number s)) as (λ b. has t (cond b (x ∷ put_sender s xs) (cond (sender_number x == sender_number s) (s ∷ xs) (s ∷ x ∷ xs))) ≡ true) [
-  | true ↦ rest_true (is_same_sender t x) (has t (put_sender s xs)) (put_is_there t s e xs)
-  | false ↦ elim (sender_number x == sender_number s) as (λ b. has t (cond b (s ∷ xs) (s ∷ x ∷ xs)) ≡ true) [
-    | true ↦ first_true (is_same_sender t s) (has t xs) e
-    | false ↦ first_true (is_same_sender t s) (has t (x ∷ xs)) e
-  ]
-]
-
--- one that is there stays
-put_keeps : (t s : Sender) → IsValid t → IsValid s → (ss : List Sender) → has t ss ≡ true → has t (put_sender s ss) ≡ true
-put_keeps t s vt vs [] h = cc
-put_keeps t s vt vs (x ∷ xs) h = elim (nat_lt (sender_number x) (sender_number s)) as (λ b. has t (cond b (x ∷ put_sender s xs) (cond (sender_number x == sender_number s) (s ∷ xs) (s ∷ x ∷ xs))) ≡ true) [
-  | true ↦ either (is_same_sender t x) (has t xs) h (λ e. first_true (is_same_sender t x) (has t (put_sender s xs)) e) (λ e. rest_true (is_same_sender t x) (has t (put_sender s xs)) (put_keeps t s vt vs xs e))
+put_is_there : (t s : Sender) → IsValid t → is_same_sender t s ≡ true → (ss : List Sender) → AllByRecursion IsValid ss → has t (put_sender s ss) ≡ true
+put_is_there t s vt e [] all = first_true (is_same_sender t s) false e
+put_is_there t s vt e (x ∷ xs) all = elim (nat_lt (sender_number x) (sender_number s)) as (λ b. has t (cond b (x ∷ put_sender s xs) (cond (sender_number x == sender_number s) (x ∷ xs) (s ∷ x ∷ xs))) ≡ true) [
+  | true ↦ rest_true (is_same_sender t x) (has t (put_sender s xs)) (put_is_there t s vt e xs all.1)
   | false ↦ by (sender_number x == sender_number s) refl
 ]
   where
-    by : (b : Bool) → (sender_number x == sender_number s) ≡ b → has t (cond b (s ∷ xs) (s ∷ x ∷ xs)) ≡ true
-    by true e = either (is_same_sender t x) (has t xs) h (λ f. first_true (is_same_sender t s) (has t xs) (same_number t s vt vs (number_same t x f ∙ eqb-true (sender_number x) (sender_number s) e))) (λ f. rest_true (is_same_sender t s) (has t xs) f)
-    by false e = rest_true (is_same_sender t s) (has t (x ∷ xs)) h
+    by : (b : Bool) → (sender_number x == sender_number s) ≡ b → has t (cond b (x ∷ xs) (s ∷ x ∷ xs)) ≡ true
+    by true f = first_true (is_same_sender t x) (has t xs) (same_number t x vt all.0 (number_same t s e ∙ sym (eqb-true (sender_number x) (sender_number s) f)))
+    by false f = first_true (is_same_sender t s) (has t (x ∷ xs)) e
 
-puts_keep : (t : Sender) → IsValid t → (names ss : List Sender) → AllByRecursion IsValid names → has t ss ≡ true → has t (put_senders names ss) ≡ true
-puts_keep t vt [] ss all h = h
-puts_keep t vt (s ∷ names) ss all h = puts_keep t vt names (put_sender s ss) all.1 (put_keeps t s vt all.0 ss h)
+-- one that is there stays
+put_keeps : (t s : Sender) (ss : List Sender) → has t ss ≡ true → has t (put_sender s ss) ≡ true
+put_keeps t s [] h = cc
+put_keeps t s (x ∷ xs) h = elim (nat_lt (sender_number x) (sender_number s)) as (λ b. has t (cond b (x ∷ put_sender s xs) (cond (sender_number x == sender_number s) (x ∷ xs) (s ∷ x ∷ xs))) ≡ true) [
+  | true ↦ either (is_same_sender t x) (has t xs) h (λ e. first_true (is_same_sender t x) (has t (put_sender s xs)) e) (λ e. rest_true (is_same_sender t x) (has t (put_sender s xs)) (put_keeps t s xs e))
+  | false ↦ elim (sender_number x == sender_number s) as (λ b. has t (cond b (x ∷ xs) (s ∷ x ∷ xs)) ≡ true) [
+    | true ↦ h
+    | false ↦ rest_true (is_same_sender t s) (has t (x ∷ xs)) h
+  ]
+]
 
-puts_there : (t : Sender) → IsValid t → (names ss : List Sender) → AllByRecursion IsValid names → has t names ≡ true → has t (put_senders names ss) ≡ true
-puts_there t vt [] ss all h = cc
-puts_there t vt (s ∷ names) ss all h = either (is_same_sender t s) (has t names) h
-    (λ e. puts_keep t vt names (put_sender s ss) all.1 (put_is_there t s e ss))
-    (λ e. puts_there t vt names (put_sender s ss) all.1 e)
+puts_keep : (t : Sender) (names ss : List Sender) → has t ss ≡ true → has t (put_senders names ss) ≡ true
+puts_keep t [] ss h = h
+puts_keep t (s ∷ names) ss h = puts_keep t names (put_sender s ss) (put_keeps t s ss h)
+
+puts_there : (t : Sender) → IsValid t → (names ss : List Sender) → AllByRecursion IsValid names → AllByRecursion IsValid ss → has t names ≡ true → has t (put_senders names ss) ≡ true
+puts_there t vt [] ss all valid h = cc
+puts_there t vt (s ∷ names) ss all valid h = either (is_same_sender t s) (has t names) h
+    (λ e. puts_keep t names (put_sender s ss) (put_is_there t s vt e ss valid))
+    (λ e. puts_there t vt names (put_sender s ss) all.1 (all_put IsValid IsValid sender_number s (λ (old : Sender). old) ss all.0 (λ x k. k) (λ x is k. k) valid) e)
 
 -- ---- the names of the tables
 
@@ -112,13 +113,13 @@ network_there net (r ∷ rows) h = either (r.net_id == net) (list_any (λ (x : N
     (λ e. first_true (net == r.net_id) (has (Network net) (map network_sender rows)) (turned r.net_id net e))
     (λ e. rest_true (net == r.net_id) (has (Network net) (map network_sender rows)) (network_there net rows e))
 
-application_there : (id : _) (rows : List ApplicationRow) → list_any (λ (r : ApplicationRow). r.app_id.0 == id.0) rows ≡ true → has (Party id) (map application_sender rows) ≡ true
+application_there : (id : Eui) (rows : List ApplicationRow) → list_any (λ (r : ApplicationRow). r.app_id.0 == id.0) rows ≡ true → has (Party id) (map application_sender rows) ≡ true
 application_there id [] h = cc
 application_there id (r ∷ rows) h = either (r.app_id.0 == id.0) (list_any (λ (x : ApplicationRow). x.app_id.0 == id.0) rows) h
     (λ e. first_true (id.0 == r.app_id.0) (has (Party id) (map application_sender rows)) (turned r.app_id.0 id.0 e))
     (λ e. rest_true (id.0 == r.app_id.0) (has (Party id) (map application_sender rows)) (application_there id rows e))
 
-gateway_there : (id : _) (rows : List GatewayRow) → list_any (λ (r : GatewayRow). r.gateway_id.0 == id.0) rows ≡ true → has (Party id) (map gateway_sender rows) ≡ true
+gateway_there : (id : Eui) (rows : List GatewayRow) → list_any (λ (r : GatewayRow). r.gateway_id.0 == id.0) rows ≡ true → has (Party id) (map gateway_sender rows) ≡ true
 gateway_there id [] h = cc
 gateway_there id (r ∷ rows) h = either (r.gateway_id.0 == id.0) (list_any (λ (x : GatewayRow). x.gateway_id.0 == id.0) rows) h
     (λ e. first_true (id.0 == r.gateway_id.0) (has (Party id) (map gateway_sender rows)) (turned r.gateway_id.0 id.0 e))
@@ -155,4 +156,4 @@ knows_senders c nets = λ sender known.
     let networks = networks_valid c.networks nets in
     let names = all_append IsValid (map network_sender c.networks) (map application_sender c.applications ++ map gateway_sender c.gateways) networks
         (all_append IsValid (map application_sender c.applications) (map gateway_sender c.gateways) (applications_valid c.applications) (gateways_valid c.gateways)) in
-    puts_there sender (known_valid c sender networks known) (names_of c) [] names (named_there c sender known)
+    puts_there sender (known_valid c sender networks known) (names_of c) [] names tt (named_there c sender known)

@@ -78,7 +78,7 @@ fn with_entry<'a>(
     decision: JsDecision<'a>,
 ) -> Result<RoamDecision<'a>, Memory>
     ensures value { (head : heads.Head) → head.sender ≡ sender
-        → IfOk result (λ d. d ≡ with_entry head body.now now.0 decision) }
+        → IfOk result (λ d. d ≡ with_entry head body.now now.0 decision.entry) }
     ensures text { IfOk result HasText }
 {
     match decision {

@@ -1,7 +1,10 @@
 //! Laws of the desk: each is a sentence over the definitions alone.
 
+ghost use Rattle.roam_core.specs.Agreement.{KeptAgree, LinesAgree};
+ghost use Rattle.roam_core.specs.AppKey.{AppKeyStays};
 ghost use Rattle.roam_core.specs.Decided.{JoinServersPart};
 ghost use Rattle.roam_core.specs.Entering.{EntriesFit, RepliesKeep, StatesStay};
+ghost use Rattle.roam_core.specs.Issues.{HistoriesIssueOnce};
 ghost use Rattle.roam_core.specs.Lines.{TooLongAlike};
 ghost use Rattle.roam_core.specs.Order.{NumbersRise};
 
@@ -35,4 +38,29 @@ pub fn replies_keep()
 /// entry.
 pub fn too_long_alike()
     ensures { TooLongAlike }
+{}
+
+/// Over the tables of each valid text the answer to each line agrees with the entitlement table in
+/// the state that its own entry leaves: its keys are exactly those to which its receiver is
+/// entitled, each wrapped under the KEK of its own label.
+pub fn lines_agree()
+    ensures { LinesAgree }
+{}
+
+/// Over every legal history a kept answer that is given again agreed so when its entry was made.
+pub fn kept_agree()
+    ensures { KeptAgree }
+{}
+
+/// Two desks whose tables differ in the AppKey of one device give the same answers, kept ones too,
+/// over every list of lines with their moments, but to those who are entitled to the device's
+/// AppSKey, and to these too but for its AESKey. They keep the same state.
+pub fn app_key_stays()
+    ensures { AppKeyStays }
+{}
+
+/// Over every legal history no JoinNonce is given to a device twice, and each JoinNonce and each
+/// accepted DevNonce of a device is above those before it.
+pub fn issued_once()
+    ensures { HistoriesIssueOnce }
 {}

@@ -5,13 +5,14 @@ ghost use Rattle.std.specs.Prelude.{◌≡◌, length, IfOk, IfSome, IsTrue, Som
 ghost use Rattle.wire_ids.specs.Decisions.{entry_of};
 ghost use Rattle.backend_json.specs.Answers.{text_of};
 ghost use Rattle.entry_codec.specs.Fits.{fits};
+ghost use Rattle.roam_core.specs.Agreement.{Agrees};
 ghost use Rattle.roam_core.specs.Desk.{desk_of};
 ghost use Rattle.roam_core.specs.Entering.{CanEnter};
 ghost use Rattle.roam_core.specs.Lines.{bad_answer, bad_member, line_decided, reaction};
 ghost use Rattle.roam_core.specs.Lines.{text_in};
 ghost use Rattle.roam_core.specs.Texts.{HasText, kept_text};
 
-use crate::laws::entries_fit;
+use crate::laws::{entries_fit, lines_agree};
 use crate::{RoamDecision, roam_decide};
 use agreements::Tables;
 use backend_json::{Answer, Bad, Head, Refusal, answer_text, read_message};
@@ -95,8 +96,8 @@ fn entered_text(alloc: Global, answer: &Answer, entry: &Entry) -> Result<Text, M
 // The answer's bytes, and the entry.
 fn reaction_of(alloc: Global, decision: RoamDecision) -> Result<Reaction, Memory>
     requires text { HasText decision }
-    ensures answer { IfOk result (λ r. r.answer ≡ text_in decision) }
-    ensures entry { IfOk result (λ r. r.entry ≡ entry_of decision) }
+    ensures answer { IfOk result (λ r. r.answer ≡ text_in decision.entry) }
+    ensures entry { IfOk result (λ r. r.entry ≡ entry_of decision.entry) }
 {
     match decision {
         Decision::Repeat(answer) => Ok(Reaction {
@@ -136,7 +137,11 @@ pub fn react<E: BlockFn, D: BlockFn>(
     ensures entry { IfOk result (λ r. r.entry
         ≡ (reaction tables.now vault.now (desk_of state.now) line.now now.0).entry) }
     ensures fits { IfOk result (λ r. IfSome r.entry (λ e. IsTrue (fits state.now.now e))) }
+    ensures agrees { Agrees tables.now vault.now (desk_of state.now) now.0
+        (line_decided tables.now vault.now (desk_of state.now) line.now now.0) }
 {
     entries_fit();
+    tables.devices();
+    lines_agree();
     reaction_of(alloc, line_decided(alloc, tables, vault, state, line, now)?)
 }

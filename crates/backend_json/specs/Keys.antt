@@ -54,7 +54,7 @@ members_of_keys keys =
     ++ (key_if (codes "NwkSEncKey") keys.nwk_s_enc_key
     ++ key_if (codes "SNwkSIntKey") keys.s_nwk_s_int_key))
 
--- the keys that are written are those of the answer, each under its own name, and a refusal has none, as the answer to a home look-up
+-- the keys that are written are those of the answer, each under its own name; a refusal and the answer to a home look-up have none
 pub record KeysAreWritten : Type 0 where
   pub headless : key_members Headless ≡ []
   pub refused : (head : Head) (cause : Refusal) → key_members (Headed head (Refused cause)) ≡ []

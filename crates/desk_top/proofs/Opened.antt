@@ -1,21 +1,18 @@
 -- The desk that is opened, and what each entry leaves of it.
 use Rattle.std.proofs.Common.{◌≡◌, ◌<◌, ◌≤◌, ℕ, ◌+◌, ◌^◌, List, length, true, refl, sym, ap, ◌∙◌, subst, arith}
 use Rattle.std.specs.Prelude.{IsTrue, ◌&&◌, nat_le, nat_lt, min, max}
-use Rattle.std.specs.List.{list_any}
 use Rattle.wire_ids.specs.declared.moment.Moment.{Moment}
-use Rattle.wire_ids.specs.declared.party.Sender.{Sender}
 use Rattle.agreements.specs.Walk.{Config}
 use Rattle.entries.specs.declared.entry.Entry.{Entry}
 use Rattle.entries.specs.declared.entry.Event.TheVariants as event
 use Rattle.entry_codec.specs.Empty.{empty}
 use Rattle.entry_codec.specs.Fits.{fits, fits_event, is_time, names_there}
-use Rattle.entry_codec.specs.LookUps.{is_same_sender}
 use Rattle.entry_codec.specs.Machine.{Machine, after, lapse, on_event, ready}
 use Rattle.entry_codec.proofs.Bools.{and_left, and_right}
 use Rattle.entry_codec.proofs.Stays.{stays-event, stays-ready}
-use Rattle.roam_core.specs.Desk.{Desk, IsStateOf, desk_after, empty_desk, moment_of}
+use Rattle.roam_core.specs.Desk.{Desk, desk_after, empty_desk, moment_of}
 use Rattle.roam_core.specs.Entering.{CanEnter, KnowsSenders}
-use Rattle.roam_core.proofs.Staying.{state_after, state_first}
+use Rattle.roam_core.proofs.Staying.{senders_after, state_after, state_first}
 use Rattle.desk_top.specs.Output.{entry_at, opened}
 use Rattle.desk_top.specs.Turns.{IsOpen}
 
@@ -28,10 +25,6 @@ unfolding fits
 moment_fits m e h =
     let time = and_left (is_time e.moment.0 m) (names_there e.event (lapse e.moment.0 m)) (and_left (is_time e.moment.0 m && names_there e.event (lapse e.moment.0 m)) (fits_event e.event (ready m e)) h) in
     grind (arith, and_right (nat_le m.moment e.moment.0) (nat_le e.moment.0 (2 ^ 53)) (and_left (nat_le m.moment e.moment.0 && nat_le e.moment.0 (2 ^ 53)) (nat_lt m.entries (2 ^ 63)) time))
-
--- a state knows the senders of the state that it came from
-senders_after : (c : Config) (m k : Machine) → IsStateOf c m → IsStateOf c k → KnowsSenders c m → KnowsSenders c k
-senders_after c m k a b known = λ sender has. subst (λ (ss : List Sender). IsTrue (list_any (is_same_sender sender) ss)) (a.senders ∙ sym b.senders) (known sender has)
 
 -- an entry that fits takes one number
 pub open_after : (c : Config) (most : ℕ) (m : Machine) (e : Entry) → IsTrue (fits m e) → IsOpen c (most + 1) m → IsOpen c most (after m e)

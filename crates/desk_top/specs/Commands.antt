@@ -5,6 +5,7 @@ use Rattle.disk_model.specs.Moments.{Told}
 use Rattle.disk_model.specs.Written.{AppendsFront}
 use Rattle.agreements.specs.Walk.{Config, tables_of}
 use Rattle.wire_ids.specs.declared.keys.RootKeys.{RootKeys}
+use Rattle.roam_core.specs.Agreement.{AgreeOver}
 use Rattle.roam_core.specs.Desk.{Desk}
 use Rattle.desk_top.specs.Output.{key_table, opened}
 use Rattle.desk_top.specs.LastLines.{counts_line}
@@ -22,6 +23,8 @@ pub record Opening (told : Option (List ℕ)) (before : Outside) : Type 0 where
   pub text : List ℕ
   pub reads : ReadsText text_room told text
   pub valid : tables_of text ≡ Ok config
+  -- each answer agrees with the entitlement table, and a kept one did when its entry was made
+  pub agree : AgreeOver config
   pub outside : Outside
   -- what the clock read
   pub reading : ℕ

@@ -3,6 +3,7 @@ ghost use Rattle.std.specs.Prelude.{IfErr, IsErrOf};
 ghost use Rattle.std.specs.Io.KnownBytes.{Consumes, IsAtEnd};
 ghost use Rattle.wire_ids.specs.Causes.{Rose};
 ghost use Rattle.agreements.specs.Walk.{tables_of};
+ghost use Rattle.roam_core.specs.Agreement.{AgreeOver};
 ghost use Rattle.desk_top.specs.Faults.{IsOfReading};
 ghost use Rattle.desk_top.specs.Opening.{Tells, Unopened};
 ghost use Rattle.desk_top.specs.Text.{ReadsText, text_room};
@@ -12,6 +13,7 @@ use crate::fault::Fault;
 use crate::last_line::refused_text;
 use agreements::{Tables, TablesFault, Unread, read_tables};
 use disk_model::Source;
+use roam_core::answers_agree;
 use std::alloc::Global;
 use wire_ids::LongText;
 
@@ -85,27 +87,28 @@ fn refused(alloc: Global, refusal: &TablesFault) -> Fault
 
 /// Valid tables, and their text.
 #[derive(Drop)]
-pub(crate) struct Opened {
+pub(crate) struct TablesText {
     pub(crate) tables: Tables,
     pub(crate) text: LongText,
 }
 
 // Tables, and their text, which is no longer than a tables text may be.
-fn opened(tables: Tables, text: Vec<u8>) -> Result<Opened, Fault>
-    ensures text { IfOk result (λ opened. opened.text ≡ text.items) }
-    ensures tables { IfOk result (λ opened. opened.tables ≡ tables) }
+fn with_text(tables: Tables, text: Vec<u8>) -> Result<TablesText, Fault>
+    ensures text { IfOk result (λ both. both.text ≡ text.items) }
+    ensures tables { IfOk result (λ both. both.tables ≡ tables) }
     ensures memory { IfErr result (λ e. e ≡ fault.Memory) }
 {
     match LongText::new(text) {
-        Some(text) => Ok(Opened { tables, text }),
+        Some(text) => Ok(TablesText { tables, text }),
         None => Err(Fault::Memory),
     }
 }
 
 // The tables of a source's text.
-pub(crate) fn open_tables<S: Source>(alloc: Global, source: &mut S) -> Result<Opened, Fault>
-    ensures text { IfOk result (λ opened. ReadsText text_room (S.left source.old) opened.text) }
-    ensures tables { IfOk result (λ opened. tables_of opened.text ≡ Ok opened.tables) }
+pub(crate) fn open_tables<S: Source>(alloc: Global, source: &mut S) -> Result<TablesText, Fault>
+    ensures text { IfOk result (λ both. ReadsText text_room (S.left source.old) both.text) }
+    ensures tables { IfOk result (λ both. tables_of both.text ≡ Ok both.tables) }
+    ensures agree { IfOk result (λ both. AgreeOver both.tables) }
     ensures unopened { IfErr result (Unopened (S.left source.old) (S.faults source.old)
         (S.faults source.new)) }
     ensures taken { (bytes : List ℕ) × Consumes (S.left source.old) (S.left source.new) bytes
@@ -113,7 +116,10 @@ pub(crate) fn open_tables<S: Source>(alloc: Global, source: &mut S) -> Result<Op
 {
     let text = read_text(alloc, TEXT_ROOM, source)?;
     match read_tables(alloc, &text) {
-        Ok(tables) => opened(tables, text),
+        Ok(tables) => {
+            answers_agree(&tables);
+            with_text(tables, text)
+        }
         Err(Unread::Refused(refusal)) => Err(refused(alloc, &refusal)),
         Err(Unread::Memory) => Err(Fault::Memory),
     }

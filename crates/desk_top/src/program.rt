@@ -5,7 +5,7 @@ ghost use Rattle.desk_top.specs.Promises.{Promises, seen, seen_clock};
 use crate::counts::print_counts;
 use crate::fault::Fault;
 use crate::last_line::{close, status_of};
-use crate::opening::{Opened, open_tables};
+use crate::opening::{TablesText, open_tables};
 use crate::vaulted::answer_vaulted;
 use crate::words::{Command, command_of};
 use disk_model::{Clock, Disk, Link, Ran, Sink, Source, Steps};
@@ -39,7 +39,7 @@ fn work<S: Source, T: Source, O: Sink, K: Clock>(
         return Err(Fault::Usage);
     };
     let opened = open_tables(alloc, tables)?;
-    let Opened { tables, text } = opened;
+    let TablesText { tables, text } = opened;
     match command {
         Command::Check => print_counts(alloc, &tables, out),
         Command::Answer => {

@@ -4,7 +4,7 @@ use Rattle.wire_ids.specs.declared.party.Sender.{Sender}
 use Rattle.wire_ids.specs.declared.party.Sender.TheVariants as senders
 use Rattle.wire_ids.specs.declared.party.PeerId.{PeerId}
 use Rattle.wire_ids.specs.declared.party.PeerId.TheVariants as peers
-use Rattle.wire_ids.specs.Forms.{IsForm, u24, u24}
+use Rattle.wire_ids.specs.Forms.{IsForm, u24}
 use Rattle.wire_ids.proofs.Forms.{by_test, taken_arm, arm_again, form-sum, form-both, form-named, form-u8, form-u24, form-u32, form-u64, form-optional, form-exactly}
 use Rattle.entries.specs.Names.{eui, dev_addr, moment, radio, session_keys, sender, sender_tag, sender_fields, sender_at, FitsSender, peer, peer_tag, peer_fields, peer_at, FitsPeerId}
 

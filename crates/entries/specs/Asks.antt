@@ -11,7 +11,7 @@ use Rattle.entries.specs.declared.ask.HeldCount.{HeldCount}
 use Rattle.entries.specs.declared.ask.Effect.{Effect}
 use Rattle.entries.specs.declared.ask.Effect.TheVariants as effects
 use Rattle.entries.specs.declared.ask.AskOutcome.{AskOutcome}
-use Rattle.wire_ids.specs.Forms.{Read, Form, u8, u16, u24, u32, u64, arm, sum, flag, optional, exactly, short, both, named, u24}
+use Rattle.wire_ids.specs.Forms.{Read, Form, u8, u16, u24, u32, u64, arm, sum, flag, optional, exactly, short, both, named}
 use Rattle.entries.specs.Names.{eui, dev_addr, moment, radio, session_keys, sender, peer}
 
 abbrev pub ask_kind_tag : AskKind → ℕ

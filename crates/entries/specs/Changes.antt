@@ -13,7 +13,7 @@ use Rattle.entries.specs.declared.change.Queued.{Queued}
 use Rattle.entries.specs.declared.change.RoamingKind.{RoamingKind}
 use Rattle.entries.specs.declared.change.RoamingKind.TheVariants as roaming_kinds
 use Rattle.entries.specs.declared.change.Stopped.{Stopped}
-use Rattle.wire_ids.specs.Forms.{Read, Form, u8, u16, u24, u32, below, mark, arm, sum, flag, optional, short, both, named, u24}
+use Rattle.wire_ids.specs.Forms.{Read, Form, u8, u16, u24, u32, below, mark, arm, sum, flag, optional, short, both, named}
 use Rattle.entries.specs.Names.{eui, dev_addr, moment, radio}
 
 -- the type of a rejoin, and the place of its seed, which is FF for type 1

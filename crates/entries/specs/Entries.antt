@@ -136,8 +136,3 @@ ReadsAgain = (e : Entry) → HasSpelling e → decode_of (encode_of e) ≡ Some 
 
 abbrev pub HasOneSpelling : Type 0
 HasOneSpelling = (a b : List ℕ) (e : Entry) → AreBytes a → AreBytes b → decode_of a ≡ Some e → decode_of b ≡ Some e → a ≡ b
-
--- the request whose answer the entry keeps; nothing else of an event has a request
-abbrev pub request_of : Event → Option Request
-request_of (Kept r c) = Some r
-request_of event = None

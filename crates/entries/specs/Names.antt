@@ -9,7 +9,7 @@ use Rattle.wire_ids.specs.declared.party.Sender.{Sender}
 use Rattle.wire_ids.specs.declared.party.Sender.TheVariants as senders
 use Rattle.wire_ids.specs.declared.party.PeerId.{PeerId}
 use Rattle.wire_ids.specs.declared.party.PeerId.TheVariants as peers
-use Rattle.wire_ids.specs.Forms.{Read, Form, u8, u24, u32, u64, arm, sum, optional, exactly, both, named, u24}
+use Rattle.wire_ids.specs.Forms.{Read, Form, u8, u24, u32, u64, arm, sum, optional, exactly, both, named}
 
 abbrev pub eui : Form Eui
 eui = named u64 (λ n. record { 0 = n }) (λ x. x.0)

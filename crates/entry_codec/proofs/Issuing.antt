@@ -25,7 +25,7 @@ use Rattle.entries.specs.declared.entry.Event.{Event}
 use Rattle.entries.specs.declared.entry.Event.TheVariants as event
 use Rattle.entries.specs.declared.entry.Request.{Request}
 use Rattle.entries.specs.declared.used_seed.UsedSeed.{UsedSeed}
-use Rattle.entry_codec.specs.Devices.{called_back, heard, in_slots, joined, kept_count, lapsed, lent_out, marked, queued, rejoined, seed_of, with_granted, with_session}
+use Rattle.entry_codec.specs.Devices.{called_back, heard, in_slots, joined, kept_count, lapsed, lent_out, marked, queued, rejoined, seed_of, with_grant, with_session}
 use Rattle.entry_codec.specs.Empty.{empty, new_device}
 use Rattle.entry_codec.specs.Fits.{fits, fits_change, fits_event, fits_join, fits_lending, fits_own, fits_rejoin, fits_step, fits_used, is_above}
 use Rattle.entry_codec.specs.Index.{device_number, is_number, names, row_number}
@@ -108,9 +108,9 @@ climbs-called_back : (d : Device) → d.join_nonce ≤ (called_back d).join_nonc
 unfolding called_back
 climbs-called_back d = omega arith
 
-climbs-with_granted : (g : _) (d : Device) → d.join_nonce ≤ (with_granted g d).join_nonce
-unfolding with_granted
-climbs-with_granted g d = omega arith
+climbs-with_grant : (g : _) (d : Device) → d.join_nonce ≤ (with_grant g d).join_nonce
+unfolding with_grant
+climbs-with_grant g d = omega arith
 
 -- ---- events
 
@@ -163,8 +163,8 @@ climbs-change sender (change.Rejoin j) m h = climbs-given j.device j.join_nonce 
 climbs-change sender (change.Lent l) m h = climbs-given l.device l.join_nonce (lent_out l.used l.counter l.join_nonce (lent_to l)) m (gives-lent l m h)
 climbs-change sender (change.Up u) m h = climbs-on_slots (holder_of u.dev_eui m) (heard u.pending u.count u.frame u.down) m
 climbs-change sender (change.Passive p) m h =
-    let k = on_place (place_of p.up.dev_eui m) (with_granted (granted_by p)) m in
-    climbs_then m k (on_slots (holder_of p.up.dev_eui m) (heard p.up.pending p.up.count p.up.frame p.up.down) k) (climbs-on_place (place_of p.up.dev_eui m) (with_granted (granted_by p)) m (climbs-with_granted (granted_by p)))
+    let k = on_place (place_of p.up.dev_eui m) (with_grant (granted_by p)) m in
+    climbs_then m k (on_slots (holder_of p.up.dev_eui m) (heard p.up.pending p.up.count p.up.frame p.up.down) k) (climbs-on_place (place_of p.up.dev_eui m) (with_grant (granted_by p)) m (climbs-with_grant (granted_by p)))
     (climbs-on_slots (holder_of p.up.dev_eui m) (heard p.up.pending p.up.count p.up.frame p.up.down) k)
 climbs-change sender (change.Queue q) m h = climbs-on_device q.device (queued (item_of q)) m (λ d e. climbs-queued (item_of q) d)
 climbs-change sender (change.Dropped d) m h = climbs-dropped d.what sender d.dev_eui m
@@ -369,7 +369,7 @@ found-empty c places = λ i d there. found_at c.devices i d places there
         let was = name_at rows i d there in
         let within : i < length rows = slice_get_within rows i was.0 was.1 in
         let own : get_or rows i was.0 ≡ was.0 = get_or_from_slice_get rows i was.0 was.0 was.1 in
-        let place : position (λ (r : DeviceRow). r.dev_eui.0 == d.dev_eui.0) rows ≡ Some i = subst (λ (k : ℕ). position (λ (r : DeviceRow). r.dev_eui.0 == k) rows ≡ Some i) (ap (λ (r : DeviceRow). r.dev_eui.0) own ∙ was.2) (h i was.0 within) in
+        let place : position (λ (r : DeviceRow). r.dev_eui.0 == d.dev_eui.0) rows ≡ Some i = subst (λ (k : ℕ). position (λ (r : DeviceRow). r.dev_eui.0 == k) rows ≡ Some i) (ap (λ (r : DeviceRow). r.dev_eui.0) {y = was.0} own ∙ was.2) (h i was.0 within) in
         ap (λ (ns : List ℕ). position (is_number d.dev_eui.0) ns) (names-new c.desk.net_id rows) ∙ position-map (is_number d.dev_eui.0) row_number rows ∙ place
 
 pub join_nonces_once : JoinNoncesOnce

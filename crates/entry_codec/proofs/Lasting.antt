@@ -26,7 +26,7 @@ use Rattle.entries.specs.declared.entry.Event.{Event}
 use Rattle.entries.specs.declared.entry.Event.TheVariants as event
 use Rattle.entries.specs.declared.used_seed.UsedSeed.{UsedSeed}
 use Rattle.entries.specs.declared.used_seed.UsedSeed.TheVariants.{Rejoin0, Rejoin1, Rejoin2}
-use Rattle.entry_codec.specs.Devices.{called_back, heard, in_slots, is_granted, joined, kept_count, lapsed, lent_out, marked, net_of, queued, rejoined, seed_of, still_lent, with_granted, with_session}
+use Rattle.entry_codec.specs.Devices.{called_back, heard, in_slots, is_granted, joined, kept_count, lapsed, lent_out, marked, net_of, queued, rejoined, seed_of, still_lent, with_grant, with_session}
 use Rattle.entry_codec.specs.Ends.{AskEndsFrom, DeviceEndsFrom, EndsFrom, HeldEndsFrom, IsGrantedFrom, IsLentFrom, VisitorEndsFrom, change_end, effect_end, event_end}
 use Rattle.entry_codec.specs.Machine.{Machine, ask_of, asked, closed, entered, granted_by, held_number, hold, holder_of, in_visitor, is_held, is_open, is_other, is_session, is_visitor, item_of, lapse, lent_to, move_count, new_visitor, on_change, on_device, on_dropped, on_effect, on_event, on_place, on_slots, on_visitor, place_of, renewed, visit, visitor_number, visits, wake, with_count, with_rejoin, without}
 use Rattle.entry_codec.specs.declared.device.Device.{Device}
@@ -125,9 +125,9 @@ ends-called_back : (at : ℕ) (d : Device) → DeviceEndsFrom at d → DeviceEnd
 unfolding called_back
 ends-called_back at d h = record { lent = tt; granted = h.granted }
 
-ends-with_granted : (at : ℕ) (g : Granted) (d : Device) → at ≤ g.until.0 → DeviceEndsFrom at d → DeviceEndsFrom at (with_granted g d)
-unfolding with_granted
-ends-with_granted at g d le h = record { lent = h.lent; granted = all_put (IsGrantedFrom at) (IsGrantedFrom at) net_of g (λ (old : Granted). g) d.granted.items le (λ x k. k) (λ x e k. le) h.granted }
+ends-with_grant : (at : ℕ) (g : Granted) (d : Device) → at ≤ g.until.0 → DeviceEndsFrom at d → DeviceEndsFrom at (with_grant g d)
+unfolding with_grant
+ends-with_grant at g d le h = record { lent = h.lent; granted = all_put (IsGrantedFrom at) (IsGrantedFrom at) net_of g (λ (old : Granted). g) d.granted.items le (λ x k. k) (λ x e k. le) h.granted }
 
 -- ---- steps of a state
 
@@ -165,8 +165,8 @@ ends-change at sender (change.Join j) m le h = ends-on_device at j.device (joine
 ends-change at sender (change.Rejoin j) m le h = ends-on_device at j.device (rejoined j.used j.counter j.join_nonce j.own) m (ends-rejoined at j.used j.counter j.join_nonce j.own) h
 ends-change at sender (change.Lent l) m le h = ends-on_device at l.device (lent_out l.used l.counter l.join_nonce (lent_to l)) m (λ d k. ends-lent_out at l.used l.counter l.join_nonce (lent_to l) d le k) h
 ends-change at sender (change.Up u) m le h = ends-on_slots at (holder_of u.dev_eui m) (heard u.pending u.count u.frame u.down) m h
-ends-change at sender (change.Passive p) m le h = ends-on_slots at (holder_of p.up.dev_eui m) (heard p.up.pending p.up.count p.up.frame p.up.down) (on_place (place_of p.up.dev_eui m) (with_granted (granted_by p)) m)
-    (ends-on_place at (place_of p.up.dev_eui m) (with_granted (granted_by p)) m (λ d k. ends-with_granted at (granted_by p) d le k) h)
+ends-change at sender (change.Passive p) m le h = ends-on_slots at (holder_of p.up.dev_eui m) (heard p.up.pending p.up.count p.up.frame p.up.down) (on_place (place_of p.up.dev_eui m) (with_grant (granted_by p)) m)
+    (ends-on_place at (place_of p.up.dev_eui m) (with_grant (granted_by p)) m (λ d k. ends-with_grant at (granted_by p) d le k) h)
 ends-change at sender (change.Queue q) m le h = ends-on_device at q.device (queued (item_of q)) m (ends-queued at (item_of q)) h
 ends-change at sender (change.Dropped d) m le h = ends-dropped at d.what sender d.dev_eui m h
 

@@ -17,7 +17,7 @@ use Rattle.entries.specs.declared.change.Change.TheVariants as change
 use Rattle.entries.specs.declared.change.PassiveUplink.{PassiveUplink}
 use Rattle.entries.specs.declared.entry.Event.{Event}
 use Rattle.entries.specs.declared.entry.Event.TheVariants as event
-use Rattle.entry_codec.specs.Devices.{has_room_for, net_of, put_granted}
+use Rattle.entry_codec.specs.Devices.{can_grant, net_of, put_granted}
 use Rattle.entry_codec.specs.Fits.{can_hold, fits_change, fits_effect, fits_event, fits_told, fits_up}
 use Rattle.entry_codec.specs.LookUps.{asks_for, at_home, device_named, is_network, is_same_sender, is_sender}
 use Rattle.entry_codec.specs.Machine.{Machine, granted_by, hold, is_home, open_ask, place_of}
@@ -65,8 +65,8 @@ known_member ss (g ∷ gs) q all h = elim (nat_eq q g.net) as (λ b. nat_eq q g.
 few_granted : (ss : List Sender) (gs : List Granted) → IsRisingBy net_of gs → AllByRecursion (HasRow ss) gs → length gs ≤ length (networks ss)
 few_granted ss gs rising all = omega (arith, length-le_from_is_member nat_eq_equiv (map net_of gs) (networks ss) (rising-distinct 0 (map net_of gs) rising) (λ q h. known_member ss gs q all h), length-map gs net_of)
 
-room_for : (ss : List Sender) (g : Granted) (d : Device) → length (networks ss) ≤ 32 → HasRow ss g → IsSoundDevice ss d → IsTrue (has_room_for g d)
-unfolding has_room_for
+room_for : (ss : List Sender) (g : Granted) (d : Device) → length (networks ss) ≤ 32 → HasRow ss g → IsSoundDevice ss d → IsTrue (can_grant g d)
+unfolding can_grant
 room_for ss g d few row h =
     let gs = put_granted g d.granted.items in
     let rising : IsRisingBy net_of gs = rising-put net_of g (λ (old : Granted). g) (λ x e. refl) d.granted.items h.granted in
@@ -83,25 +83,25 @@ all_at P (y ∷ ys) (suc i) x all e = all_at P ys i x all.1 e
 
 -- ---- of each event that fits
 
-room_at : (m : Machine) (g : Granted) (o : Option ℕ) → IsTrue (holds_of is_home (at_place m.devices o)) → HasRow m.senders g → IsSound m → IsTrue (holds_of (has_room_for g) (at_place m.devices o))
+room_at : (m : Machine) (g : Granted) (o : Option ℕ) → IsTrue (holds_of is_home (at_place m.devices o)) → HasRow m.senders g → IsSound m → IsTrue (holds_of (can_grant g) (at_place m.devices o))
 room_at m g None home row h = absurd cc
 room_at m g (Some i) home row h = by (slice_get m.devices i) refl home
   where
-    by : (q : Option Device) → slice_get m.devices i ≡ q → IsTrue (holds_of is_home q) → IsTrue (holds_of (has_room_for g) q)
+    by : (q : Option Device) → slice_get m.devices i ≡ q → IsTrue (holds_of is_home q) → IsTrue (holds_of (can_grant g) q)
     by None e k = absurd cc
     by (Some d) e k = room_for m.senders g d h.few_networks row (all_at (IsSoundDevice m.senders) m.devices i d h.devices e)
 
-can_grant : (sender : Sender) (c : Change) (m : Machine) → IsTrue (fits_change sender c m) → IsSound m → CanGrant c m
+grants : (sender : Sender) (c : Change) (m : Machine) → IsTrue (fits_change sender c m) → IsSound m → CanGrant c m
 unfolding fits_change
-can_grant sender (change.Join j) m fits h = tt
-can_grant sender (change.Rejoin j) m fits h = tt
-can_grant sender (change.Lent l) m fits h = tt
-can_grant sender (change.Up u) m fits h = tt
-can_grant sender (change.Passive p) m fits h =
+grants sender (change.Join j) m fits h = tt
+grants sender (change.Rejoin j) m fits h = tt
+grants sender (change.Lent l) m fits h = tt
+grants sender (change.Up u) m fits h = tt
+grants sender (change.Passive p) m fits h =
     let both = and_left (is_network p.net m && at_home p.up.dev_eui m) (fits_up p.up m) fits in
     room_at m (granted_by p) (place_of p.up.dev_eui m) (and_right (is_network p.net m) (at_home p.up.dev_eui m) both) (and_left (is_network p.net m) (at_home p.up.dev_eui m) both) h
-can_grant sender (change.Queue q) m fits h = tt
-can_grant sender (change.Dropped d) m fits h = tt
+grants sender (change.Queue q) m fits h = tt
+grants sender (change.Dropped d) m fits h = tt
 
 room_effect : (t : ℕ) (e : Effect) (m : Machine) (a : OpenAsk) → IsTrue (fits_effect t e m a) → IsSound m → HasRoomFor e m
 unfolding fits_effect
@@ -118,7 +118,7 @@ pub has_room : (e : Event) (m : Machine) → IsTrue (fits_event e m) → IsSound
 unfolding fits_event
 has_room event.Opened m fits h = tt
 has_room (event.Tables t) m fits h = tt
-has_room (event.Kept r c) m fits h = can_grant r.sender c m (and_right (nat_lt 0 m.entries && is_sender r.sender m) (fits_change r.sender c m) fits) h
+has_room (event.Kept r c) m fits h = grants r.sender c m (and_right (nat_lt 0 m.entries && is_sender r.sender m) (fits_change r.sender c m) fits) h
 has_room (event.Asked a) m fits h = tt
 has_room (event.Told t) m fits h = room_told t m (open_ask t.ask m) (and_right (nat_lt 0 m.entries) (fits_told t m) fits) h
 has_room (event.Suspend i) m fits h = tt

@@ -37,7 +37,7 @@ use Rattle.entries.specs.declared.change.Uplink.{Uplink}
 use Rattle.entries.specs.declared.entry.Entry.{Entry}
 use Rattle.entries.specs.declared.entry.Event.{Event}
 use Rattle.entries.specs.declared.entry.Event.TheVariants as event
-use Rattle.entry_codec.specs.Devices.{called_back, heard, in_slots, joined, lapsed, lent_out, marked, queued, rejoined, with_granted}
+use Rattle.entry_codec.specs.Devices.{called_back, heard, in_slots, joined, lapsed, lent_out, marked, queued, rejoined, with_grant}
 use Rattle.entry_codec.specs.Fits.{can_hold, can_move, can_queue, can_visit, closes_open, fits, fits_asked, fits_change, fits_count, fits_dropped, fits_effect, fits_event, fits_join, fits_lending, fits_own, fits_passive, fits_rejoin, fits_step, fits_told, fits_up, fits_used, has_room_to_hold, is_above, is_free, is_later, is_marked, is_time, may_ask, names_there}
 use Rattle.entry_codec.specs.LookUps.{asks_for, at_home, device_has, has_visitor, is_addr, is_network, is_sender, is_taken, is_taken_beside, knows_peer, lives, slot_has, slots_have, visitor_has}
 use Rattle.entry_codec.specs.Machine.{Machine, after, ask_number, ask_of, asked, change_wakes, closed, entered, given_context, granted_by, heard_in, held_number, held_session, hold, holder_of, in_visitor, is_dev, is_held, is_held_for, is_home, is_open, is_other, is_session, is_visitor, item_of, lapse, lent_to, move_count, new_visitor, on_change, on_device, on_dropped, on_effect, on_event, on_passive, on_place, on_slots, on_told, on_up, on_visitor, open_ask, place_of, ready, renewed, visit, visitor_number, visits, wake, wakes, with_count, with_rejoin, without}
@@ -52,7 +52,7 @@ use Rattle.entry_codec.specs.declared.parties.Visitor.{Visitor}
 use Rattle.entry_codec.proofs.Bools.{and_left, and_right, or_rest}
 use Rattle.entry_codec.proofs.Names.{map-changed}
 use Rattle.entry_codec.proofs.Ordered.{all_filter, all_put, length-put_le, length-put_there, rising-last, rising-put, rising_filter, sum_by-put}
-use Rattle.entry_codec.proofs.SoundDevices.{IsSame, own_is_home, own_uses, same-called_back, same-in_slots, same-joined, same-lapsed, same-lent_out, same-marked, same-queued, same-rejoined, same-with_granted, slots-activated, slots-heard, slots-more, slots-offered, slots-on_active, sound-called_back, sound-in_slots, sound-joined, sound-lapsed, sound-lent_out, sound-marked, sound-queued, sound-rejoined, sound-with_granted, use-activated, use-called_back, use-heard, use-joined, use-lapsed, use-lent_out, use-marked, use-queued, use-rejoined, use-with_granted}
+use Rattle.entry_codec.proofs.SoundDevices.{IsSame, own_is_home, own_uses, same-called_back, same-in_slots, same-joined, same-lapsed, same-lent_out, same-marked, same-queued, same-rejoined, same-with_grant, slots-activated, slots-heard, slots-more, slots-offered, slots-on_active, sound-called_back, sound-in_slots, sound-joined, sound-lapsed, sound-lent_out, sound-marked, sound-queued, sound-rejoined, sound-with_grant, use-activated, use-called_back, use-heard, use-joined, use-lapsed, use-lent_out, use-marked, use-queued, use-rejoined, use-with_grant}
 use Rattle.entry_codec.proofs.SoundDevices as devices
 use Rattle.entry_codec.proofs.Stays.{fits_its_event, stays-event}
 use Rattle.entry_codec.proofs.Sums.{at_some, holds_of-changed, none_holds}
@@ -386,8 +386,8 @@ sound-on_change n sender (change.Lent l) m fits h = sound-step n l.device (lent_
 sound-on_change n sender (change.Up u) m fits h = sound-on_slots n (holder_of u.dev_eui m) (heard u.pending u.count u.frame u.down) m (step-heard u) h
 sound-on_change n sender (change.Passive p) m fits h =
     let row : HasRow m.senders (granted_by p) = and_left (is_network p.net m) (at_home p.up.dev_eui m) (and_left (is_network p.net m && at_home p.up.dev_eui m) (fits_up p.up m) fits) in
-    sound-on_slots n (holder_of p.up.dev_eui m) (heard p.up.pending p.up.count p.up.frame p.up.down) (on_place (place_of p.up.dev_eui m) (with_granted (granted_by p)) m) (step-heard p.up)
-    (on_place-sound n (place_of p.up.dev_eui m) (with_granted (granted_by p)) m (same-with_granted (granted_by p)) (λ d k. sound-with_granted m.senders (granted_by p) d row k) (λ addr d. use-with_granted addr (granted_by p) d) h)
+    sound-on_slots n (holder_of p.up.dev_eui m) (heard p.up.pending p.up.count p.up.frame p.up.down) (on_place (place_of p.up.dev_eui m) (with_grant (granted_by p)) m) (step-heard p.up)
+    (on_place-sound n (place_of p.up.dev_eui m) (with_grant (granted_by p)) m (same-with_grant (granted_by p)) (λ d k. sound-with_grant m.senders (granted_by p) d row k) (λ addr d. use-with_grant addr (granted_by p) d) h)
 sound-on_change n sender (change.Queue q) m fits h = sound-step n q.device (queued (item_of q)) (can_queue q.number) m (same-queued (item_of q)) (λ d can k. sound-queued m.senders (item_of q) d can k) (λ addr d. use-queued addr (item_of q) d)
     (and_right (nat_le (length q.payload) 242) (holds_of (can_queue q.number) (slice_get m.devices q.device)) fits) h
 sound-on_change n sender (change.Dropped d) m fits h = sound-dropped n d.what sender d.dev_eui m h

@@ -25,7 +25,7 @@ use Rattle.entries.specs.declared.change.Downlink.TheVariants as down
 use Rattle.entries.specs.declared.change.OwnContext.{OwnContext}
 use Rattle.entries.specs.declared.used_seed.UsedSeed.{UsedSeed}
 use Rattle.entries.specs.declared.used_seed.UsedSeed.TheVariants.{Rejoin0, Rejoin1, Rejoin2}
-use Rattle.entry_codec.specs.Devices.{answered, called_back, counted, heard, in_slots, joined, kept_count, lapsed, lent_out, marked, put_granted, queued, rejoined, seed_of, stepped, with_count, with_granted, with_own, with_seed, with_session}
+use Rattle.entry_codec.specs.Devices.{answered, called_back, counted, heard, in_slots, joined, kept_count, lapsed, lent_out, marked, put_granted, queued, rejoined, seed_of, stepped, with_count, with_grant, with_own, with_seed, with_session}
 use Rattle.entry_codec.specs.Fits.{can_queue, fits_slots, takes}
 use Rattle.entry_codec.specs.LookUps.{slot_has}
 use Rattle.entry_codec.specs.Ordered.{IsRisingBy}
@@ -310,9 +310,9 @@ pub sound-called_back : (ss : List Sender) (d : Device) → IsSoundDevice ss d �
 unfolding called_back
 sound-called_back ss d h = record { seeds = h.seeds; nonces = h.nonces; slots = h.slots; home = h.home; granted = h.granted; known = h.known }
 
-pub sound-with_granted : (ss : List Sender) (g : Granted) (d : Device) → HasRow ss g → IsSoundDevice ss d → IsSoundDevice ss (with_granted g d)
-unfolding with_granted
-sound-with_granted ss g d row h = record {
+pub sound-with_grant : (ss : List Sender) (g : Granted) (d : Device) → HasRow ss g → IsSoundDevice ss d → IsSoundDevice ss (with_grant g d)
+unfolding with_grant
+sound-with_grant ss g d row h = record {
   seeds = h.seeds;
   nonces = h.nonces;
   slots = h.slots;
@@ -411,9 +411,9 @@ pub use-called_back : (addr : DevAddr) (d : Device) → device_uses addr (called
 unfolding called_back
 use-called_back addr d = omega arith
 
-pub use-with_granted : (addr : DevAddr) (g : Granted) (d : Device) → device_uses addr (with_granted g d) ≤ device_uses addr d + 0
-unfolding with_granted
-use-with_granted addr g d = omega arith
+pub use-with_grant : (addr : DevAddr) (g : Granted) (d : Device) → device_uses addr (with_grant g d) ≤ device_uses addr d + 0
+unfolding with_grant
+use-with_grant addr g d = omega arith
 
 use-with_session : (addr : DevAddr) (seed : Seed) (own : Option OwnContext) (d : Device) → device_uses addr (with_session seed own d) ≤ device_uses addr d + own_uses addr own
 use-with_session addr seed None d = omega arith
@@ -482,9 +482,9 @@ pub same-called_back : IsSame called_back
 unfolding called_back
 same-called_back = record { name = λ d. refl; home = λ d. refl }
 
-pub same-with_granted : (g : Granted) → IsSame (with_granted g)
-unfolding with_granted
-same-with_granted g = record { name = λ d. refl; home = λ d. refl }
+pub same-with_grant : (g : Granted) → IsSame (with_grant g)
+unfolding with_grant
+same-with_grant g = record { name = λ d. refl; home = λ d. refl }
 
 pub same-queued : (item : Item) → IsSame (queued item)
 unfolding queued

@@ -17,7 +17,7 @@ use Rattle.entries.specs.declared.change.RoamingKind.TheVariants as kind
 use Rattle.entries.specs.declared.entry.Entry.{Entry}
 use Rattle.entries.specs.declared.entry.Event.{Event}
 use Rattle.entries.specs.declared.entry.Event.TheVariants as event
-use Rattle.entry_codec.specs.Devices.{called_back, heard, in_slots, joined, lapsed, lent_out, marked, queued, rejoined, with_granted}
+use Rattle.entry_codec.specs.Devices.{called_back, heard, in_slots, joined, lapsed, lent_out, marked, queued, rejoined, with_grant}
 use Rattle.entry_codec.specs.Fits.{fits, fits_event, is_time, names_there}
 use Rattle.entry_codec.specs.Index.{device_number, names}
 use Rattle.entry_codec.specs.Machine.{Machine, after, asked, closed, entered, granted_by, holder_of, item_of, lapse, lent_to, on_change, on_device, on_dropped, on_effect, on_event, on_place, on_slots, place_of, ready, wake, wakes, with_rejoin}
@@ -26,7 +26,7 @@ use Rattle.entry_codec.specs.declared.parties.Holder.{Holder}
 use Rattle.entry_codec.specs.declared.parties.Holder.TheVariants as holder
 use Rattle.entry_codec.proofs.Bools.{and_left, and_right}
 use Rattle.entry_codec.proofs.Names.{map-changed}
-use Rattle.entry_codec.proofs.SoundDevices.{IsSame, same-called_back, same-in_slots, same-joined, same-lapsed, same-lent_out, same-marked, same-queued, same-rejoined, same-with_granted}
+use Rattle.entry_codec.proofs.SoundDevices.{IsSame, same-called_back, same-in_slots, same-joined, same-lapsed, same-lent_out, same-marked, same-queued, same-rejoined, same-with_grant}
 
 -- what stays: the devices' names, and the number of entries
 pub record Stays (m k : Machine) : Type 0 where
@@ -60,9 +60,9 @@ stays-change sender (change.Rejoin j) m = stays-on_device j.device (rejoined j.u
 stays-change sender (change.Lent l) m = stays-on_device l.device (lent_out l.used l.counter l.join_nonce (lent_to l)) m (same-lent_out l.used l.counter l.join_nonce (lent_to l))
 stays-change sender (change.Up u) m = stays-on_slots (holder_of u.dev_eui m) (heard u.pending u.count u.frame u.down) m
 stays-change sender (change.Passive p) m =
-    let k = on_place (place_of p.up.dev_eui m) (with_granted (granted_by p)) m in
+    let k = on_place (place_of p.up.dev_eui m) (with_grant (granted_by p)) m in
     stays_then m k (on_slots (holder_of p.up.dev_eui m) (heard p.up.pending p.up.count p.up.frame p.up.down) k)
-    (stays-on_place (place_of p.up.dev_eui m) (with_granted (granted_by p)) m (same-with_granted (granted_by p))) (stays-on_slots (holder_of p.up.dev_eui m) (heard p.up.pending p.up.count p.up.frame p.up.down) k)
+    (stays-on_place (place_of p.up.dev_eui m) (with_grant (granted_by p)) m (same-with_grant (granted_by p))) (stays-on_slots (holder_of p.up.dev_eui m) (heard p.up.pending p.up.count p.up.frame p.up.down) k)
 stays-change sender (change.Queue q) m = stays-on_device q.device (queued (item_of q)) m (same-queued (item_of q))
 stays-change sender (change.Dropped d) m = stays-dropped d.what sender d.dev_eui m
 

@@ -116,12 +116,12 @@ abbrev pub put_granted : Granted → List Granted → List Granted
 put_granted g gs = put_in net_of g (λ (old : Granted). g) gs
 
 -- the network has a session until its moment
-unfoldable pub with_granted : Granted → Device → Device
-with_granted g d = record d { granted = record { items = put_granted g d.granted.items } }
+unfoldable pub with_grant : Granted → Device → Device
+with_grant g d = record d { granted = record { items = put_granted g d.granted.items } }
 
 -- no device has more than 32 granted sessions, as there are no more networks
-unfoldable pub has_room_for : Granted → Device → Bool
-has_room_for g d = nat_le (length (put_granted g d.granted.items)) 32
+unfoldable pub can_grant : Granted → Device → Bool
+can_grant g d = nat_le (length (put_granted g d.granted.items)) 32
 
 -- ---- marks
 

@@ -12,3 +12,4 @@ pub mod Empty
 pub mod Replay
 pub mod Issues
 pub mod Free
+pub mod Told

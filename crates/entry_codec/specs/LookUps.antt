@@ -29,17 +29,25 @@ is_same_sender (Network a) (Party b) = false
 is_same_sender (Party a) (Network b) = false
 is_same_sender (Party a) (Party b) = a.0 == b.0
 
+-- the sender is one of these
+abbrev pub is_among : List Sender → Sender → Bool
+is_among senders sender = list_any (is_same_sender sender) senders
+
+-- of a network that is asked, that it is one of these; a join server is no sender
+abbrev pub peer_among : List Sender → PeerId → Bool
+peer_among senders (peer.Network net) = is_among senders (Network net)
+peer_among senders (peer.JoinServer id) = true
+
 -- the sender has a row
 abbrev pub is_sender : Sender → Machine → Bool
-is_sender sender m = list_any (is_same_sender sender) m.senders
+is_sender sender m = is_among m.senders sender
 
 abbrev pub is_network : ℕ → Machine → Bool
 is_network net m = is_sender (Network net) m
 
--- of a network that is asked, that it has a row; a join server is no sender
+-- the peer has a row, where it is a network
 abbrev pub knows_peer : PeerId → Machine → Bool
-knows_peer (peer.Network net) m = is_network net m
-knows_peer (peer.JoinServer id) m = true
+knows_peer peer m = peer_among m.senders peer
 
 abbrev pub home_among : Eui → List Device → Bool
 home_among dev devices = holds_of is_home (at_place devices (position (is_dev dev) devices))

@@ -31,7 +31,7 @@ use Rattle.entries.specs.declared.change.Uplink.{Uplink}
 use Rattle.entries.specs.declared.entry.Entry.{Entry}
 use Rattle.entries.specs.declared.entry.Event.{Event}
 use Rattle.entries.specs.declared.entry.Event.TheVariants as event
-use Rattle.entry_codec.specs.Devices.{called_back, heard, in_slots, joined, lapsed, lent_out, marked, queued, rejoined, uses_pending, with_granted}
+use Rattle.entry_codec.specs.Devices.{called_back, heard, in_slots, joined, lapsed, lent_out, marked, queued, rejoined, uses_pending, with_grant}
 use Rattle.entry_codec.specs.Ordered.{put_in}
 use Rattle.entry_codec.specs.declared.device.Device.{Device}
 use Rattle.entry_codec.specs.declared.device.Granted.{Granted}
@@ -217,7 +217,7 @@ abbrev pub granted_by : PassiveUplink → Granted
 granted_by p = record { net = p.net; until = p.until }
 
 abbrev pub on_passive : PassiveUplink → Machine → Machine
-on_passive p m = heard_in p.up (holder_of p.up.dev_eui m) (on_place (place_of p.up.dev_eui m) (with_granted (granted_by p)) m)
+on_passive p m = heard_in p.up (holder_of p.up.dev_eui m) (on_place (place_of p.up.dev_eui m) (with_grant (granted_by p)) m)
 
 -- the sender is this network
 abbrev pub is_the_network : Sender → ℕ → Bool

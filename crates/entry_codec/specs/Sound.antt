@@ -1,6 +1,6 @@
 -- What holds of every state that entries led to.
 use Rattle.std.specs.Prelude.{◌≡◌, ◌≢◌, ℕ, ◌+◌, ◌<◌, ◌≤◌, ◌||◌, List, length, filter_map, Option, Some, None, Bool, false, is_some, not, IsTrue, if◌then◌else◌, sum_by}
-use Rattle.std.specs.List.{AllByRecursion, list_any}
+use Rattle.std.specs.List.{AllByRecursion}
 use Rattle.wire_ids.specs.declared.address.DevAddr.{DevAddr}
 use Rattle.wire_ids.specs.declared.party.Sender.{Sender}
 use Rattle.wire_ids.specs.declared.party.Sender.TheVariants.{Network, Party}
@@ -10,7 +10,7 @@ use Rattle.contexts.specs.declared.context.Origin.{Origin}
 use Rattle.contexts.specs.declared.context.Origin.TheVariants.{Given, Seeded}
 use Rattle.contexts.specs.declared.slots.Slots.{Slots}
 use Rattle.entry_codec.specs.Devices.{net_of}
-use Rattle.entry_codec.specs.LookUps.{home_among, is_addr, is_same_sender, slot_has}
+use Rattle.entry_codec.specs.LookUps.{home_among, is_addr, is_among, slot_has}
 use Rattle.entry_codec.specs.Machine.{Machine, ask_number, held_number, visitor_number}
 use Rattle.entry_codec.specs.Ordered.{IsRisingBy}
 use Rattle.entry_codec.specs.declared.device.Device.{Device}
@@ -64,7 +64,7 @@ abbrev pub networks : List Sender → List ℕ
 networks senders = filter_map network_of senders
 
 abbrev pub HasRow : List Sender → Granted → Type 0
-HasRow senders g = IsTrue (list_any (is_same_sender (Network g.net)) senders)
+HasRow senders g = IsTrue (is_among senders (Network g.net))
 
 pub record IsSoundDevice (senders : List Sender) (d : Device) : Type 0 where
   pub seeds : length d.seeds.items ≤ 4

@@ -3,7 +3,7 @@ use Rattle.std.specs.Prelude.{ℕ, ◌≤◌, List, length, Option, Some, None, 
 use Rattle.wire_ids.specs.Lists.{holds_of}
 use Rattle.entries.specs.declared.change.Change.{Change}
 use Rattle.entries.specs.declared.change.Change.TheVariants as change
-use Rattle.entry_codec.specs.Devices.{has_room_for}
+use Rattle.entry_codec.specs.Devices.{can_grant}
 use Rattle.entry_codec.specs.LookUps.{device_named}
 use Rattle.entries.specs.declared.ask.AskOutcome.{AskOutcome}
 use Rattle.entries.specs.declared.ask.Effect.{Effect}
@@ -38,7 +38,7 @@ needs _ = 0
 -- ---- that there is room, which holds of every event that fits a state that entries led to
 
 abbrev pub CanGrant : Change → Machine → Type 0
-CanGrant (change.Passive p) m = IsTrue (holds_of (has_room_for (granted_by p)) (device_named p.up.dev_eui m))
+CanGrant (change.Passive p) m = IsTrue (holds_of (can_grant (granted_by p)) (device_named p.up.dev_eui m))
 CanGrant _ m = Unit {0}
 
 abbrev pub HasRoomFor : Effect → Machine → Type 0

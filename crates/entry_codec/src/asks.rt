@@ -24,7 +24,8 @@ fn place(asks: &[OpenAsk], number: u64) -> Option<usize>
 #[tactic(auto, using(crate::proofs::Places::none_found, crate::proofs::Places::pulled))]
 fn pull(asks: &mut Vec<OpenAsk>, number: u64) -> Option<OpenAsk>
     ensures found { result ≡ find (has_number number) asks.old.items }
-    ensures left { filter (is_other number) asks.new.items ≡ filter (is_other number) asks.old.items }
+    ensures left { filter (is_other number) asks.new.items
+        ≡ filter (is_other number) asks.old.items }
     ensures capacity { vec_capacity asks.new ≡ vec_capacity asks.old }
 {
     match place(asks.as_slice(), number) {

@@ -2,11 +2,12 @@ ghost use Rattle.std.specs.Prelude.{◌≡◌, ◌≤◌, ◌==◌, length, nat_
 ghost use Rattle.std.specs.List.{filter};
 ghost use Rattle.wire_ids.specs.Lists.{changed, holds_of};
 ghost use Rattle.entry_codec.specs.declared.device.Granted as Granted_;
-ghost use Rattle.entry_codec.specs.Devices.{called_back, is_from, is_granted, is_pending, joined, kept_count};
-ghost use Rattle.entry_codec.specs.Devices.{lapsed, lent_out, marked, rejoined, uses_pending};
+ghost use Rattle.entry_codec.specs.Devices.{called_back, can_grant, is_from, is_granted};
+ghost use Rattle.entry_codec.specs.Devices.{is_pending, joined, kept_count, lapsed, lent_out};
 ghost use Rattle.entry_codec.specs.Fits.{can_queue};
 ghost use Rattle.entry_codec.specs.Ordered.{place_in};
-ghost use Rattle.entry_codec.specs.Devices.{has_room_for, net_of, put_granted, queued, with_granted};
+ghost use Rattle.entry_codec.specs.Devices.{marked, net_of, put_granted, queued, rejoined};
+ghost use Rattle.entry_codec.specs.Devices.{uses_pending, with_grant};
 ghost use Rattle.entry_codec.specs.Devices.{with_count, with_own, with_seed, with_session};
 
 use crate::uplink::queue;
@@ -216,10 +217,10 @@ impl Device {
     }
 
     /// Grants a network a session.
-    #[tactic(auto, unfolding(crate::specs::Devices::with_granted, crate::specs::Devices::has_room_for))]
+    #[tactic(auto, unfolding(crate::specs::Devices::with_grant, crate::specs::Devices::can_grant))]
     pub(crate) fn grant(&mut self, new: Granted)
-        requires { IsTrue (has_room_for new self.old) }
-        ensures { self.new ≡ with_granted new self.old }
+        requires { IsTrue (can_grant new self.old) }
+        ensures { self.new ≡ with_grant new self.old }
     {
         put_granted(&mut self.granted, new);
     }
@@ -280,7 +281,8 @@ fn place(granted: &[Granted], net: u32) -> usize
 }
 
 fn is_at(granted: &[Granted], at: usize, net: u32) -> bool
-    ensures { result ≡ holds_of (λ (g : Granted_.Granted). g.net == net) (slice_get granted.now at) }
+    ensures { result
+        ≡ holds_of (λ (g : Granted_.Granted). g.net == net) (slice_get granted.now at) }
 {
     match granted.get(at) {
         None => false,

@@ -4,7 +4,7 @@ ghost use Rattle.std.specs.Prelude.{◌≡◌, ◌≤◌, length, map, IsTrue, s
 ghost use Rattle.wire_ids.specs.Lists.{changed, holds_of};
 ghost use Rattle.entry_codec.specs.Devices.{called_back, heard, in_slots, joined, lapsed, lent_out};
 ghost use Rattle.contexts.specs.Slots.{activated};
-ghost use Rattle.entry_codec.specs.Devices.{marked, queued, rejoined, with_granted, has_room_for};
+ghost use Rattle.entry_codec.specs.Devices.{marked, queued, rejoined, with_grant, can_grant};
 ghost use Rattle.entry_codec.specs.Fits.{can_queue};
 
 use crate::uplink::hear as hear_in;
@@ -53,7 +53,8 @@ pub(crate) fn lend(
     join_nonce: Nonce24,
     to: LentTo,
 )
-    ensures { devices.new.items ≡ changed number (lent_out used counter join_nonce to) devices.old.items }
+    ensures { devices.new.items
+        ≡ changed number (lent_out used counter join_nonce to) devices.old.items }
 {
     if (number as usize) < devices.len() {
         let device = &mut devices[number as usize];
@@ -118,8 +119,8 @@ pub(crate) fn push(devices: &mut Vec<Device>, number: u32, item: Item)
 
 /// Grants a network a session of the device.
 pub(crate) fn grant(devices: &mut Vec<Device>, number: u32, new: Granted)
-    requires { IsTrue (holds_of (has_room_for new) (slice_get devices.old.items number)) }
-    ensures { devices.new.items ≡ changed number (with_granted new) devices.old.items }
+    requires { IsTrue (holds_of (can_grant new) (slice_get devices.old.items number)) }
+    ensures { devices.new.items ≡ changed number (with_grant new) devices.old.items }
 {
     let device = &mut devices[number as usize];
     device.grant(new);

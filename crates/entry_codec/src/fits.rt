@@ -236,13 +236,15 @@ impl Now {
     #[tactic(auto, using(crate::proofs::Ready::lent_lapse))]
     fn is_lent_to(&self, index: &Index, sender: Sender, dev: Eui, at: u64) -> bool
         requires { IsIndex index.now (names self.now.machine.devices) }
-        ensures { result ≡ holds_of (is_lent_by sender) (device_named dev (lapse at self.now.machine)) }
+        ensures { result
+            ≡ holds_of (is_lent_by sender) (device_named dev (lapse at self.now.machine)) }
     {
         self.is_lent_by(index, sender, dev, at)
     }
 
     fn is_guest_of(&self, sender: Sender, dev: Eui, at: u64) -> bool
-        ensures { result ≡ holds_of (is_guest_of sender) (visitor_of dev (lapse at self.now.machine)) }
+        ensures { result
+            ≡ holds_of (is_guest_of sender) (visitor_of dev (lapse at self.now.machine)) }
     {
         match self.visitor(dev, at) {
             None => false,
@@ -296,7 +298,8 @@ impl Now {
 
 // Whether the RJcount0 is above the last one of the context under which the rejoin was heard.
 fn counts_above(slots: &Slots, count: RejoinCount) -> bool
-    ensures { result ≡ holds_of (is_counted_below count.count) (woken count.pending slots.now).active }
+    ensures { result
+        ≡ holds_of (is_counted_below count.count) (woken count.pending slots.now).active }
 {
     match awake(slots, count.pending) {
         None => false,

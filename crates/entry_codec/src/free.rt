@@ -1,10 +1,12 @@
 //! The least free address of a network, found in one pass over all that have addresses.
 
-ghost use Rattle.std.specs.Prelude.{◌≡◌, ◌+◌, ◌<◌, ◌&&◌, ℕ, false, length, not, option_map, position};
+ghost use Rattle.std.specs.Prelude.{◌≡◌, ◌+◌, ◌<◌, ◌&&◌, ℕ, false, length, not};
+ghost use Rattle.std.specs.Prelude.{option_map, position};
 ghost use Rattle.std.specs.Prelude.{slice_index_or};
 ghost use Rattle.std.specs.List.{list_any};
 ghost use Rattle.wire_ids.specs.declared.address.DevAddr as dev_addr;
-ghost use Rattle.entry_codec.specs.Free.{IsFirstFree, Marks, addr_of, ask_stays, free_address, is_the};
+ghost use Rattle.entry_codec.specs.Free.{IsFirstFree, Marks, addr_of, ask_stays, free_address};
+ghost use Rattle.entry_codec.specs.Free.{is_the};
 ghost use Rattle.entry_codec.specs.Free.{leaving, slots_leave, visitor_stays};
 ghost use Rattle.entry_codec.specs.LookUps.{device_has, is_addr, is_taken, slot_has, slots_have};
 ghost use Rattle.entry_codec.specs.Machine.{lapse, wake};
@@ -55,7 +57,8 @@ fn mark_devices(marks: &mut [bool], first: u32, devices: &[Device])
 }
 
 fn mark_visitor(marks: &mut [bool], first: u32, visitor: &Visitor, at: u64)
-    ensures { Marks first (λ (a : dev_addr.DevAddr). visitor_stays at a visitor.now) marks.old marks.new }
+    ensures { Marks first (λ (a : dev_addr.DevAddr). visitor_stays at a visitor.now)
+        marks.old marks.new }
 {
     if at < visitor.until.0 {
         mark_slots(marks, first, &visitor.slots);
@@ -144,7 +147,8 @@ impl Now {
     // The first number of the window that is free.
     fn free_in_window(&self, first: u32, who: Option<Holder>, at: u64) -> Option<usize>
         requires { IsSound self.now.machine }
-        ensures { IsFirstFree first (λ (a : dev_addr.DevAddr). is_taken a (wake who (lapse at self.now.machine)))
+        ensures { IsFirstFree first
+            (λ (a : dev_addr.DevAddr). is_taken a (wake who (lapse at self.now.machine)))
             result }
     {
         let mut marks = [false; WINDOW];

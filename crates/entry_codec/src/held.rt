@@ -28,7 +28,8 @@ pub(crate) fn held_number(held: &HeldSession) -> u64
 }
 
 fn first_from(held: &[HeldSession], number: u64) -> Option<usize>
-    ensures { result ≡ position (λ (h : HeldSession_.HeldSession). nat_le number (held_number h)) held.now }
+    ensures { result
+        ≡ position (λ (h : HeldSession_.HeldSession). nat_le number (held_number h)) held.now }
 {
     held.iter().position(|held| number <= held_number(held))
 }
@@ -55,7 +56,8 @@ fn is_at(held: &[HeldSession], at: usize, number: u64) -> bool
 }
 
 fn replace(held: &mut Vec<HeldSession>, at: usize, new: &HeldSession)
-    ensures items { held.new.items ≡ changed at (λ (old : HeldSession_.HeldSession). new.now) held.old.items }
+    ensures items { held.new.items
+        ≡ changed at (λ (old : HeldSession_.HeldSession). new.now) held.old.items }
     ensures capacity { vec_capacity held.new ≡ vec_capacity held.old }
 {
     if at < held.len() {

@@ -2,6 +2,7 @@
 
 ghost use Rattle.entry_codec.specs.Issues.{JoinNoncesOnce};
 ghost use Rattle.entry_codec.specs.Replay.{SoundReplays};
+ghost use Rattle.entry_codec.specs.Told.{OpenedCanBeTold};
 
 /// What holds of every state holds of the first one of tables, and of each one that entries which
 /// fit lead to.
@@ -12,4 +13,10 @@ pub fn sound_replays()
 /// No JoinNonce is given to a device twice, over every list of entries that fit.
 pub fn join_nonces_once()
     ensures { JoinNoncesOnce }
+{}
+
+/// What open asks need so that whatever their peers answer fits, holds before the first entry and
+/// after each opening.
+pub fn opened_asks_can_be_told()
+    ensures { OpenedCanBeTold }
 {}

@@ -22,6 +22,11 @@ mod uplink;
 mod visitors;
 
 pub use device::{Device, Granted, KeptSeed, LentTo};
+pub use entries::{
+    AskKind, AskOutcome, Change, Downlink, Effect, Entry, Event, HeldCount, HeldSession, Joined,
+    Lending, NewAsk, NewVisitor, OwnContext, PassiveUplink, Queued, RejoinCount, Rejoined, Request,
+    RoamingKind, SeedPlace, Stopped, Target, Uplink, UsedSeed, decode, encode,
+};
 pub use kept::{KeptAnswers, KeptPair, KeptPairs};
 pub use parties::{Holder, LiveContext, OpenAsk, Visitor};
 pub use state::State;

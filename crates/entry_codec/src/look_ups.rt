@@ -210,7 +210,8 @@ impl Now {
     }
 
     fn device_slots(&self, device: u32) -> Option<&Slots>
-        ensures { option_copied result ≡ option_map device_slots (slice_get self.now.machine.devices device) }
+        ensures { option_copied result
+            ≡ option_map device_slots (slice_get self.now.machine.devices device) }
     {
         match self.devices.as_slice().get(device as usize) {
             None => None,

@@ -1,7 +1,7 @@
 ghost use Rattle.std.specs.Prelude.{◌≡◌, ◌≤◌, ◌<◌, ◌^◌, length, slice_get, IsTrue, OnOk};
 ghost use Rattle.wire_ids.specs.Lists.{at_place, changed, holds_of};
-ghost use Rattle.entry_codec.specs.Devices.{called_back, has_room_for, lent_out, queued};
-ghost use Rattle.entry_codec.specs.Devices.{with_granted};
+ghost use Rattle.entry_codec.specs.Devices.{called_back, can_grant, lent_out, queued};
+ghost use Rattle.entry_codec.specs.Devices.{with_grant};
 ghost use Rattle.entry_codec.specs.Fits.{can_queue, fits_change, fits_event};
 ghost use Rattle.entry_codec.specs.Index.{IsIndex, names};
 ghost use Rattle.entry_codec.specs.Kept.{kept_by, told_of, told_request};
@@ -203,8 +203,8 @@ impl Now {
 
     // Grants a session of the device in this place.
     fn grant(&mut self, place: Option<u32>, new: Granted)
-        requires { IsTrue (holds_of (has_room_for new) (at_place self.old.machine.devices place)) }
-        ensures { self.new.machine ≡ on_place place (with_granted new) self.old.machine }
+        requires { IsTrue (holds_of (can_grant new) (at_place self.old.machine.devices place)) }
+        ensures { self.new.machine ≡ on_place place (with_grant new) self.old.machine }
     {
         if let Some(device) = place {
             devices::grant(&mut self.devices, device, new);
@@ -214,7 +214,7 @@ impl Now {
     fn hear_passive(&mut self, index: &Index, passive: &PassiveUplink)
         requires index { IsIndex index.now (names self.old.machine.devices) }
         requires frame { length passive.now.up.frame ≤ 255 }
-        requires room { IsTrue (holds_of (has_room_for (granted_by passive.now))
+        requires room { IsTrue (holds_of (can_grant (granted_by passive.now))
             (device_named passive.now.up.dev_eui self.old.machine)) }
         ensures { self.new.machine ≡ on_passive passive.now self.old.machine }
     {
@@ -256,7 +256,8 @@ impl Now {
 
     fn stop(&mut self, index: &Index, sender: Sender, stopped: Stopped)
         requires { IsIndex index.now (names self.old.machine.devices) }
-        ensures { self.new.machine ≡ on_dropped stopped.what sender stopped.dev_eui self.old.machine }
+        ensures { self.new.machine
+            ≡ on_dropped stopped.what sender stopped.dev_eui self.old.machine }
     {
         match stopped.what {
             RoamingKind::Held => held::stop(&mut self.held, sender, stopped.dev_eui),
@@ -299,7 +300,8 @@ impl Now {
 
     // Closes the ask in whose place another comes.
     fn close(&mut self, closes: Option<u64>)
-        ensures { self.new.machine ≡ record self.old.machine { asks = without closes self.old.machine.asks } }
+        ensures { self.new.machine
+            ≡ record self.old.machine { asks = without closes self.old.machine.asks } }
     {
         if let Some(number) = closes {
             asks::close(&mut self.asks, number);
@@ -336,7 +338,8 @@ impl Now {
     fn take_effect(&mut self, effect: &Effect)
         requires visitor { effect_needs effect.now ≤ self.old.spare }
         requires room { HasRoomFor effect.now self.old.machine }
-        ensures { self.new.machine ≡ on_effect self.old.machine.entries effect.now self.old.machine }
+        ensures { self.new.machine
+            ≡ on_effect self.old.machine.entries effect.now self.old.machine }
     {
         match effect {
             Effect::Nothing => {}

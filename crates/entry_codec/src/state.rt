@@ -7,8 +7,8 @@ ghost use Rattle.entry_codec.specs.Index.{IsIndex, names};
 ghost use Rattle.entry_codec.specs.Kept.{AllFew, kept_answer};
 ghost use Rattle.entry_codec.specs.LookUps.{at_home, is_asked, is_sender, is_taken, slots_of};
 ghost use Rattle.entry_codec.specs.LookUps.{visitor_of};
-ghost use Rattle.entry_codec.specs.Machine.{after, held_session, holder_of, lapse, open_ask, place_of};
-ghost use Rattle.entry_codec.specs.Machine.{wake};
+ghost use Rattle.entry_codec.specs.Machine.{after, held_session, holder_of, lapse, open_ask};
+ghost use Rattle.entry_codec.specs.Machine.{place_of, wake};
 ghost use Rattle.entry_codec.specs.Sound.{IsSound};
 ghost use Rattle.entry_codec.specs.State.{kept_after, needs};
 
@@ -73,7 +73,6 @@ fn lapse(now: &mut Now, due: &mut u64, at: u64)
 impl State {
     /// The state of these tables before the first entry. The one error is want of memory.
     pub fn new(alloc: Global, tables: &Tables) -> Result<State, Memory>
-        requires { length tables.now.networks ≤ 32 }
         ensures now { IfOk result (λ state. state.now ≡ empty tables.now) }
         ensures kept { IfOk result (λ state. state.kept ≡ empty_kept tables.now) }
     {

@@ -6,7 +6,8 @@ ghost use Rattle.std.specs.List.{filter, insert};
 ghost use Rattle.wire_ids.specs.Lists.{changed, changed_first, holds_of};
 ghost use Rattle.contexts.specs.Slots.{activated, on_active};
 ghost use Rattle.entry_codec.specs.Devices.{heard};
-ghost use Rattle.entry_codec.specs.Machine.{given_context, in_visitor, is_visitor, new_visitor, renewed, visit};
+ghost use Rattle.entry_codec.specs.Machine.{given_context, in_visitor, is_visitor, new_visitor};
+ghost use Rattle.entry_codec.specs.Machine.{renewed, visit};
 ghost use Rattle.entry_codec.specs.Machine.{visitor_number, visits, with_count};
 ghost use Rattle.entry_codec.specs.Ordered.{place_in};
 ghost use Rattle.entry_codec.specs.declared.parties.Visitor as Visitor_;
@@ -35,7 +36,8 @@ fn place(visitors: &[Visitor], dev: u64) -> usize
 }
 
 fn is_at(visitors: &[Visitor], at: usize, dev: u64) -> bool
-    ensures { result ≡ holds_of (λ (v : Visitor_.Visitor). v.dev_eui.0 == dev) (slice_get visitors.now at) }
+    ensures { result
+        ≡ holds_of (λ (v : Visitor_.Visitor). v.dev_eui.0 == dev) (slice_get visitors.now at) }
 {
     match visitors.get(at) {
         None => false,

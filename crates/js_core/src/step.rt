@@ -107,9 +107,13 @@ fn seed_place<E: BlockFn, D: BlockFn>(
     }
 }
 
+/// The MIC of a frame isn't valid.
+#[derive(Drop)]
+pub(crate) struct WrongMic;
+
 /// The place of the kept seed that a rejoin-request of type 0 or 2 uses, whose MIC is looked at
-/// once under each kept seed at most; None for other frames. An error exactly where the MIC isn't
-/// valid.
+/// once under each kept seed at most; None for other frames. The error comes exactly where the MIC
+/// isn't valid.
 pub(crate) fn checked_mic<E: BlockFn, D: BlockFn>(
     vault: &Vault<E, D>,
     device: u32,
@@ -117,7 +121,7 @@ pub(crate) fn checked_mic<E: BlockFn, D: BlockFn>(
     kept: &Device,
     up: &JoinUp,
     frame: &[u8],
-) -> Result<Option<SeedPlace>, ()>
+) -> Result<Option<SeedPlace>, WrongMic>
     requires device { device < length vault.now }
     requires size { length frame.now ≡ frame_size up.now }
     ensures wrong { IfErr result (λ _.
@@ -134,18 +138,18 @@ pub(crate) fn checked_mic<E: BlockFn, D: BlockFn>(
             if is_join_valid(vault, device, frame) {
                 Ok(None)
             } else {
-                Err(())
+                Err(WrongMic)
             }
         }
         JoinUp::Rejoin02 { .. } => match seed_place(vault, device, kept, frame) {
             Some(place) => Ok(Some(place)),
-            None => Err(()),
+            None => Err(WrongMic),
         },
         JoinUp::Rejoin1 { .. } => {
             if is_rejoin_valid(&vault.js_int(device, row.dev_eui), frame) {
                 Ok(None)
             } else {
-                Err(())
+                Err(WrongMic)
             }
         }
     }

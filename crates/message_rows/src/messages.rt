@@ -10,7 +10,7 @@ use wire_ids::{Eui, NetId, PeerId, Sender, Text};
 fn is_send<T: Send>() {}
 
 // Bodies, and the first member of each that is missing or ill-formed.
-const LACKING: [(&[u8], &str); 6] = [
+const LACKING: [(&[u8], &str); 8] = [
     (b"{\"SenderID\":\"000014\"}", "ProtocolVersion"),
     (
         b"{\"ProtocolVersion\":\"1.1\",\"SenderID\":\"0014\"}",
@@ -38,25 +38,44 @@ const LACKING: [(&[u8], &str); 6] = [
         \"TransactionID\":1,\"MessageType\":\"AppSKeyReq\",\"DevEUI\":\"0000000000000001\"}",
         "SessionKeyID",
     ),
+    (
+        b"{\"ProtocolVersion\":\"1.1\",\"SenderID\":\"000014\",\"ReceiverID\":\"000013\",\
+        \"TransactionID\":1,\"MessageType\":\"RejoinReq\",\"MACVersion\":\"1.1\",\
+        \"PHYPayload\":\"0\"}",
+        "PHYPayload",
+    ),
+    (
+        b"{\"ProtocolVersion\":\"1.1\",\"SenderID\":\"000014\",\"ReceiverID\":\"000013\",\
+        \"TransactionID\":1,\"MessageType\":\"HomeNSReq\",\"DevEUI\":1}",
+        "DevEUI",
+    ),
 ];
 
-// The answer to a request whose peer said a ResultCode.
-const PEER_SAID: &[u8] = b"{\"MessageType\":\"JoinAns\",\"ProtocolVersion\":\"1.1\",\
+// The answers to requests that are refused for causes which the program doesn't print.
+const ASKED: &[u8] = b"{\"MessageType\":\"JoinAns\",\"ProtocolVersion\":\"1.1\",\
+    \"ReceiverID\":\"000014\",\"Result\":{\"Description\":\"asked\",\
+    \"ResultCode\":\"Deferred\"},\"SenderID\":\"70b3d57ed0000001\",\"TransactionID\":7}";
+
+const SUSPENDED: &[u8] = b"{\"MessageType\":\"RejoinAns\",\"ProtocolVersion\":\"1.1\",\
+    \"ReceiverID\":\"000014\",\"Result\":{\"Description\":\"suspended\",\
+    \"ResultCode\":\"ActivationDisallowed\"},\"SenderID\":\"70b3d57ed0000001\",\
+    \"TransactionID\":7}";
+
+const PEER_SAID: &[u8] = b"{\"MessageType\":\"HomeNSAns\",\"ProtocolVersion\":\"1.1\",\
     \"ReceiverID\":\"000014\",\"Result\":{\"Description\":\"peer said Busy9\",\
     \"ResultCode\":\"Other\"},\"SenderID\":\"70b3d57ed0000001\",\"TransactionID\":7}";
 
-fn peer_said(alloc: Global) -> Result<Text, Fail> {
+fn refused(alloc: Global, message_type: MessageType, cause: Refusal) -> Result<Text, Fail> {
     let head = Head {
         protocol_version: Text::of_slice(alloc, b"1.1").or(Err("memory"))?,
         sender: Sender::Network(NetId::new(0x14).ok_or("bits")?),
         receiver: PeerId::JoinServer(Eui(0x70b3d57ed0000001)),
         transaction_id: 7,
-        message_type: MessageType::JoinReq,
+        message_type,
     };
-    let code = Text::of_slice(alloc, b"Busy9").or(Err("memory"))?;
     let answer = Answer::Headed {
         head,
-        outcome: Outcome::Refused(Refusal::PeerSaid { code }),
+        outcome: Outcome::Refused(cause),
     };
     Ok(answer_text(alloc, &answer).or(Err("memory"))?)
 }
@@ -66,13 +85,29 @@ fn a_fault_names_the_first_bad_member(rt: HostRuntime) -> Result<(), Fail> {
     is_send::<Message>();
     is_send::<Bad>();
     is_send::<Answer<'static>>();
-    let alloc = rt.alloc();
     for (body, want) in LACKING {
-        let Ok(Err(Bad::Member { name, head: _ })) = read_message(alloc, body) else {
+        let Ok(Err(Bad::Member { name, head: _ })) = read_message(rt.alloc(), body) else {
             return Err(Fail::from("no bad member"));
         };
         assert_eq!(rt; name.as_slice(), want.as_bytes());
     }
-    assert_eq!(rt; peer_said(alloc)?.as_slice(), PEER_SAID);
+    Ok(())
+}
+
+#[test]
+fn a_refusal_has_its_text(rt: HostRuntime) -> Result<(), Fail> {
+    let alloc = rt.alloc();
+    let code = Text::of_slice(alloc, b"Busy9").or(Err("memory"))?;
+    for (message_type, cause, want) in [
+        (MessageType::JoinReq, Refusal::Asked, ASKED),
+        (MessageType::RejoinReq, Refusal::Suspended, SUSPENDED),
+        (
+            MessageType::HomeNSReq,
+            Refusal::PeerSaid { code },
+            PEER_SAID,
+        ),
+    ] {
+        assert_eq!(rt; refused(alloc, message_type, cause)?.as_slice(), want);
+    }
     Ok(())
 }

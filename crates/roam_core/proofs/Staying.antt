@@ -1,5 +1,7 @@
 -- What no entry changes: the devices' names, JoinEUIs and homes, and the senders.
-use Rattle.std.proofs.Common.{◌≡◌, ℕ, List, [], ◌∷◌, map, Option, Some, None, refl, ap, ◌∙◌, Bool, true, false}
+use Rattle.std.proofs.Common.{◌≡◌, ℕ, List, [], ◌∷◌, map, Option, Some, None, refl, sym, ap, ◌∙◌, subst, Bool, true, false}
+use Rattle.std.specs.List.{list_any}
+use Rattle.std.specs.Prelude.{IsTrue}
 use Rattle.wire_ids.specs.declared.eui.Eui.{Eui}
 use Rattle.wire_ids.specs.declared.party.Sender.{Sender}
 use Rattle.contexts.specs.Slots.{activated}
@@ -26,7 +28,9 @@ use Rattle.entry_codec.specs.declared.device.LentTo.{LentTo}
 use Rattle.entry_codec.specs.declared.parties.Holder.{Holder}
 use Rattle.entry_codec.specs.declared.parties.Holder.TheVariants as holder
 use Rattle.entry_codec.proofs.Names.{map-changed}
+use Rattle.entry_codec.specs.LookUps.{is_same_sender}
 use Rattle.roam_core.specs.Desk.{IsStateOf, named}
+use Rattle.roam_core.specs.Entering.{KnowsSenders}
 
 -- ---- steps of one device
 
@@ -163,3 +167,7 @@ pub state_after : (c : Config) (m : Machine) (e : Entry) → IsStateOf c m → I
 state_after c m e s =
     let k = stays-after m e in
     record { devices = k.devices ∙ s.devices; senders = k.senders ∙ s.senders }
+
+-- a state of the tables knows the senders that another one knows
+pub senders_after : (c : Config) (m k : Machine) → IsStateOf c m → IsStateOf c k → KnowsSenders c m → KnowsSenders c k
+senders_after c m k a b known = λ sender has. subst (λ (ss : List Sender). IsTrue (list_any (is_same_sender sender) ss)) (a.senders ∙ sym b.senders) (known sender has)

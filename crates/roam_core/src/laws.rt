@@ -5,6 +5,7 @@ ghost use Rattle.roam_core.specs.AppKey.{AppKeyStays};
 ghost use Rattle.roam_core.specs.Decided.{JoinServersPart};
 ghost use Rattle.roam_core.specs.Entering.{EntriesFit, RepliesKeep, StatesStay};
 ghost use Rattle.roam_core.specs.Issues.{HistoriesIssueOnce};
+ghost use Rattle.roam_core.specs.Legal.{LinesGoOn};
 ghost use Rattle.roam_core.specs.Lines.{TooLongAlike};
 ghost use Rattle.roam_core.specs.Order.{NumbersRise};
 
@@ -63,4 +64,10 @@ pub fn app_key_stays()
 /// accepted DevNonce of a device is above those before it.
 pub fn issued_once()
     ensures { HistoriesIssueOnce }
+{}
+
+/// A legal history that has its first entry goes on legally by the entry of each line, over tables
+/// whose first state knows each sender that has a row.
+pub fn lines_go_on()
+    ensures { LinesGoOn }
 {}

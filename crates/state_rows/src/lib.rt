@@ -2,6 +2,8 @@
 #![tactic(auto)]
 
 #[cfg(test)]
+mod histories;
+#[cfg(test)]
 mod slots;
 #[cfg(test)]
 mod spellings;

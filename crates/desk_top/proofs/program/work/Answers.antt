@@ -21,6 +21,7 @@ returns-clause-promises g c =
       text = opened.text;
       reads = c.in_ok-opened.ensures.text;
       valid = c.in_ok-opened.ensures.tables;
+      agree = c.in_ok-opened.ensures.agree;
       outside = record { clock = g.K.Clock.tells c.now-reading.new.self; written = written };
       reading = c.now-reading.result;
       clock = c.now-reading.ensures;

@@ -9,13 +9,26 @@ use disk_model::{Disk, Failed};
 /// bytes of the head, and another byte.
 #[derive(Drop)]
 pub struct Hollow {
-    pub head: [u8; 21],
-    pub shown: u64,
-    pub rest: u8,
-    pub length: u64,
-    pub fails_at: u64,
-    pub calls: u64,
-    pub faults: u64,
+    head: [u8; 21],
+    shown: u64,
+    rest: u8,
+    length: u64,
+    fails_at: u64,
+    calls: u64,
+    faults: u64,
+}
+
+/// One that shows so many bytes of its head, and then no open gate up to its length.
+pub fn lying(head: [u8; 21], shown: u64, length: u64, fails_at: u64) -> Hollow {
+    Hollow {
+        head,
+        shown,
+        rest: 0,
+        length,
+        fails_at,
+        calls: 0,
+        faults: 0,
+    }
 }
 
 impl Hollow {

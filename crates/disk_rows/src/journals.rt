@@ -1,11 +1,9 @@
-mod hollow;
-
 ghost use Rattle.std.specs.Prelude.{◌+◌, ◌≤◌, ◌^◌, length};
 ghost use Rattle.disk_journal.specs.Journals.{journal_end, Holds, Rests};
 
+use crate::hollow::lying;
 use disk_journal::{Journal, JournalFault};
 use disk_model::{Disk, FuseDisk, MemoryDisk};
-use hollow::Hollow;
 use std::alloc::Global;
 use std::test::Fail;
 
@@ -172,19 +170,6 @@ fn ends_and_refusals(rt: HostRuntime) -> Result<(), Fail> {
         assert_eq!(rt; journal.end(), ends[1]);
     }
     Ok(())
-}
-
-// A disk that isn't honest.
-fn lying(head: [u8; 21], shown: u64, length: u64, fails_at: u64) -> Hollow {
-    Hollow {
-        head,
-        shown,
-        rest: 0,
-        length,
-        fails_at,
-        calls: 0,
-        faults: 0,
-    }
 }
 
 #[test]

@@ -1,9 +1,9 @@
 -- A keeper in memory has the laws of a keeper.
 use Rattle.std.specs.Prelude.{◌≡◌, ◌≤◌, ◌↔◌, ℕ, List, [], ◌∷◌, length, take, drop, Some}
-use Rattle.std.proofs.Common.{ap, arith, refl, sym, ◌∙◌, subst}
+use Rattle.std.proofs.Common.{ap, arith, inl, refl, sym, ◌∙◌}
 use Rattle.std.proofs.lemmas.Option.{same_Some}
 use Rattle.std.proofs.lemmas.List.{take_all}
-use Rattle.keepers.specs.Keeper.{Image, HoldsOnly}
+use Rattle.keepers.specs.Keeper.{Image, HoldsOnly, OneMoreOrNot}
 use Rattle.keepers.specs.Memory.{cut, HadSince}
 
 pub had_now : (records : List (List ℕ)) (image : Image) → HadSince records (length records) image → image ≡ Some records
@@ -14,6 +14,9 @@ now_had records t image le now = (length records, le, omega arith, now ∙ ap So
 
 pub only_records : (records r : List (List ℕ)) → Some records ≡ Some r → HoldsOnly (λ image. image ≡ Some records) r
 only_records records r told = record { one = sym told; each = λ image holds. holds ∙ told }
+
+pub with_or_without : (records : List (List ℕ)) (tried : List ℕ) (r : List (List ℕ)) → Some records ≡ Some r → (image : Image) → image ≡ Some records → OneMoreOrNot r tried image
+with_or_without records tried r told image holds = inl (holds ∙ told)
 
 length-cut : (lengths text : List ℕ) → length lengths ≡ length (cut lengths text)
 length-cut [] text = refl

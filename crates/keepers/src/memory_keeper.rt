@@ -37,6 +37,7 @@ impl Keeper for MemoryKeeper {
     ghost use Rattle.keepers.specs.Memory.{HadSince};
     ghost use Rattle.keepers.specs.MemoryKeepers.{memory_records};
     ghost use Rattle.keepers.specs.MemoryLaws.{count_is, had_now, now_had, only_records};
+    ghost use Rattle.keepers.specs.MemoryLaws.{with_or_without};
 
     ghost records = { λ k. Some (memory_records k) };
 
@@ -54,7 +55,7 @@ impl Keeper for MemoryKeeper {
 
     ghost rests = { λ k. Unit {0} };
 
-    ghost doubts = { λ k tried. ⊥ };
+    ghost doubts = { λ k tried. Unit {0} };
 
     ghost spare_records = { λ k. k.spare_records };
 
@@ -70,7 +71,7 @@ impl Keeper for MemoryKeeper {
 
     ghost rest_is_readable = { λ k rests. rests };
 
-    ghost doubt_is_readable = { λ k tried doubts. absurd doubts };
+    ghost doubt_is_readable = { λ k tried doubts. doubts };
 
     ghost counts = { λ k readable. count_is k.lengths.items k.text.items };
 
@@ -78,7 +79,7 @@ impl Keeper for MemoryKeeper {
 
     ghost rest_holds = { λ k rests. only_records (memory_records k) };
 
-    ghost doubt_holds = { λ k tried doubts. absurd doubts };
+    ghost doubt_holds = { λ k tried doubts. with_or_without (memory_records k) tried };
 
     fn count(&self) -> u64 {
         self.lengths.len() as u64

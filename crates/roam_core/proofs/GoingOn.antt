@@ -1,5 +1,5 @@
 -- A legal history goes on legally by the entry of a line.
-use Rattle.std.proofs.Common.{◌≡◌, ℕ, ◌<◌, ◌+◌, nat_lt, List, [], ◌∷◌, ◌++◌, length, Option, Some, None, Result, Ok, Err, IsTrue, true, refl, sym, subst, ap, ◌∙◌, arith, lt-ltb}
+use Rattle.std.proofs.Common.{◌≡◌, ℕ, ◌+◌, nat_lt, List, [], ◌∷◌, ◌++◌, Some, Result, Ok, Err, IsTrue, subst, arith, lt-ltb}
 use Rattle.wire_ids.specs.Decisions.{entry_of}
 use Rattle.wire_ids.specs.declared.decision.Decision.TheVariants as decision
 use Rattle.wire_ids.specs.declared.keys.RootKeys.{RootKeys}
@@ -12,14 +12,14 @@ use Rattle.backend_json.specs.Messages.{message_of}
 use Rattle.entries.specs.declared.change.Change.{Change}
 use Rattle.entries.specs.declared.entry.Entry.{Entry}
 use Rattle.entry_codec.specs.Empty.{empty}
-use Rattle.entry_codec.specs.Fits.{fits, is_time}
+use Rattle.entry_codec.specs.Fits.{fits}
 use Rattle.entry_codec.specs.Machine.{Machine, after, on_event, ready}
 use Rattle.js_core.specs.Replies.{JsDecision}
 use Rattle.key_vault.specs.Table.{app_at, nwk_at}
 use Rattle.roam_core.specs.Decided.{decided, entry_in, with_entry}
 use Rattle.roam_core.specs.Desk.{Desk, IsStateOf, desk_after, empty_desk}
 use Rattle.roam_core.specs.Entering.{CanEnter, EntriesFit, StatesStay}
-use Rattle.roam_core.specs.Legal.{IsLegal, IsStep, LinesGoOn, MayFollow, desk_at, desk_from}
+use Rattle.roam_core.specs.Legal.{IsStep, LinesGoOn, MayFollow, desk_from}
 use Rattle.roam_core.specs.Lines.{decided_of, line_decided, reaction}
 
 -- ---- the entry of a line

@@ -17,7 +17,7 @@ only_usage (Err TooMuch) is = absurd (omega (arith, is))
 only_usage (Err Memory) is = absurd (omega (arith, is))
 
 -- 2 says that the words are no command
-pub usage_told : {S T O : Type 0} (run : Run S T O) (status : ℕ) → Ends run status → (status ≡ 2) ↔ SpellsNone run.words
+pub usage_told : {S T O K : Type 0} (run : Run S T O K) (status : ℕ) → Ends run status → (status ≡ 2) ↔ SpellsNone run.words
 usage_told run status ends = (
   λ is. ends.promises.usage.0 (only_usage ends.end (sym ends.status ∙ is)),
   λ none. ends.status ∙ ap status_of (ends.promises.usage.1 none),

@@ -1,23 +1,46 @@
 -- What turns write.
-use Rattle.std.proofs.Common.{◌≡◌, ◌≢◌, ℕ, List, [], ◌∷◌, ◌++◌, true, false, Option, Some, None, sym, ◌∙◌, ap, refl, subst, append_assoc, inl, inr}
-use Rattle.std.proofs.lemmas.List.{append-nil}
+use Rattle.std.proofs.Common.{◌≡◌, ◌≢◌, ◌≤◌, ℕ, ◌+◌, List, [], ◌∷◌, ◌++◌, length, true, false, Option, Some, None, sym, ◌∙◌, ap, refl, subst, append_assoc, arith, inl, inr}
+use Rattle.std.proofs.lemmas.List.{append-nil, length-append}
 use Rattle.std.specs.Prelude.{◌⊎◌}
 use Rattle.std.specs.Io.KnownBytes.{Appends, Keeps, prepend_known}
+use Rattle.disk_model.specs.Moments.{Told}
 use Rattle.disk_model.specs.Written.{AppendsFront}
 use Rattle.disk_model.proofs.WrittenLemmas.{Appends_kept, Appends_then, AppendsFront_more, AppendsFront_none, AppendsFront_then, Appends_none}
 use Rattle.line_reader.specs.Lines.{HasNoBreak, lines_of, whole_lines}
 use Rattle.line_reader.proofs.Breaks.{lines_of-append, lines_of-last, whole_lines-append}
 use Rattle.agreements.specs.Walk.{Config}
 use Rattle.wire_ids.specs.declared.keys.RootKeys.{RootKeys}
-use Rattle.js_core.specs.Machine.{Machine}
-use Rattle.js_core.specs.Step.{state_after}
-use Rattle.desk_top.specs.Output.{answer_line, output_of}
-use Rattle.desk_top.specs.Turns.{GoesOn, IsUnderWay, LineUsed, Turns, WritesAll, WritesFront}
+use Rattle.roam_core.specs.Desk.{Desk}
+use Rattle.desk_top.specs.Output.{answer_line, desk_after_all, desk_then, output_of}
+use Rattle.desk_top.specs.Turns.{AreUsed, IsUnderWay, LineUsed, Outside, Turns, Writes, WritesAll, WritesFront, WritesSome}
+use Rattle.desk_top.proofs.Clock.{told_none, told_then}
 
--- at the beginning nothing is used up
-pub under_way_first : (c : Config) (keys : List RootKeys) (s : Machine) (left out : Option (List ℕ)) (pending : List ℕ) → pending ≡ [] → IsUnderWay c keys s left out (prepend_known pending left) s out
-under_way_first c keys s None out pending e = tt
-under_way_first c keys s (Some left) out pending e = ([], [], sym (ap (λ (p : List ℕ). p ++ left) e), Appends_none out, inl (λ later. (refl, refl)))
+-- ---- answers one after another
+
+pub output-append : (c : Config) (keys : List RootKeys) (s : Desk) (lines more : List (List ℕ)) (readings later : List ℕ) → length readings ≡ length lines
+    → output_of c keys s (lines ++ more) (readings ++ later) ≡ output_of c keys s lines readings ++ output_of c keys (desk_after_all c keys s lines readings) more later
+output-append c keys s [] more [] later e = refl
+output-append c keys s [] more (r ∷ rs) later e = cc
+output-append c keys s (line ∷ lines) more [] later e = cc
+output-append c keys s (line ∷ lines) more (r ∷ rs) later e =
+    let now = desk_then c keys s line r in
+    ap (λ (bs : List ℕ). answer_line c keys s line r ++ bs) (output-append c keys now lines more rs later (omega (arith, e)))
+    ∙ sym (append_assoc (answer_line c keys s line r) (output_of c keys now lines rs) (output_of c keys (desk_after_all c keys now lines rs) more later))
+
+desk-append : (c : Config) (keys : List RootKeys) (s : Desk) (lines : List (List ℕ)) (readings line : List ℕ) (reading : ℕ) → length readings ≡ length lines
+    → desk_after_all c keys s (lines ++ line ∷ []) (readings ++ reading ∷ []) ≡ desk_then c keys (desk_after_all c keys s lines readings) line reading
+desk-append c keys s [] [] line reading e = refl
+desk-append c keys s [] (r ∷ rs) line reading e = cc
+desk-append c keys s (l ∷ ls) [] line reading e = cc
+desk-append c keys s (l ∷ ls) (r ∷ rs) line reading e = desk-append c keys (desk_then c keys s l r) ls rs line reading (omega (arith, e))
+
+output-one : (c : Config) (keys : List RootKeys) (s : Desk) (lines : List (List ℕ)) (readings line : List ℕ) (reading : ℕ) → length readings ≡ length lines
+    → output_of c keys s (lines ++ line ∷ []) (readings ++ reading ∷ []) ≡ output_of c keys s lines readings ++ answer_line c keys (desk_after_all c keys s lines readings) line reading
+output-one c keys s lines readings line reading e =
+    output-append c keys s lines (line ∷ []) readings (reading ∷ []) e
+    ∙ ap (λ (bs : List ℕ). output_of c keys s lines readings ++ bs) (append-nil (answer_line c keys (desk_after_all c keys s lines readings) line reading))
+
+-- ---- lines one after another
 
 -- a line with its end in front of more
 line_first : (line later : List ℕ) → HasNoBreak line → lines_of ((line ++ 10 ∷ []) ++ later) ≡ line ∷ lines_of later
@@ -26,30 +49,12 @@ line_first line later clear = ap lines_of (append_assoc line (10 ∷ []) later) 
 whole_first : (line later : List ℕ) → HasNoBreak line → whole_lines ((line ++ 10 ∷ []) ++ later) ≡ line ∷ whole_lines later
 whole_first line later clear = ap whole_lines (append_assoc line (10 ∷ []) later) ∙ whole_lines-append line later clear
 
-goes_on_line : (c : Config) (keys : List RootKeys) (s now : Machine) (used part line : List ℕ) → HasNoBreak line → GoesOn c keys s used now part → GoesOn c keys s (used ++ (line ++ 10 ∷ [])) (state_after c keys now line) (part ++ answer_line c keys now line)
-goes_on_line c keys s now used part line clear f = λ later.
-    let on = f ((line ++ 10 ∷ []) ++ later) in
-    let all = ap (λ (ls : List (List ℕ)). part ++ output_of c keys now ls) (line_first line later clear) in
-    let whole = ap (λ (ls : List (List ℕ)). part ++ output_of c keys now ls) (whole_first line later clear) in
-    let next = state_after c keys now line in (
-      ap (λ (bs : List ℕ). output_of c keys s (lines_of bs)) (append_assoc used (line ++ 10 ∷ []) later) ∙ on.0 ∙ all
-          ∙ sym (append_assoc part (answer_line c keys now line) (output_of c keys next (lines_of later))),
-      ap (λ (bs : List ℕ). output_of c keys s (whole_lines bs)) (append_assoc used (line ++ 10 ∷ []) later) ∙ on.1 ∙ whole
-          ∙ sym (append_assoc part (answer_line c keys now line) (output_of c keys next (whole_lines later))),
-    )
-
-last_line_done : (c : Config) (keys : List RootKeys) (s now : Machine) (used part line : List ℕ) → HasNoBreak line → line ≢ [] → GoesOn c keys s used now part → output_of c keys s (lines_of (used ++ line)) ≡ part ++ answer_line c keys now line
-last_line_done c keys s now used part line clear some f =
-    (f line).0 ∙ ap (λ (ls : List (List ℕ)). part ++ output_of c keys now ls) (lines_of-last line some clear)
-    ∙ ap (λ (bs : List ℕ). part ++ bs) (append-nil (answer_line c keys now line))
-
--- what was written, and the answers to what is left, are the answers to all
-pub whole_is : (c : Config) (keys : List RootKeys) (s now : Machine) (used part rest : List ℕ) → (GoesOn c keys s used now part ⊎ ((rest ≡ []) × (output_of c keys s (lines_of used) ≡ part))) → output_of c keys s (lines_of (used ++ rest)) ≡ part ++ output_of c keys now (lines_of rest)
-whole_is c keys s now used part rest (inl f) = (f rest).0
-whole_is c keys s now used part rest (inr d) =
-    ap (λ (r : List ℕ). output_of c keys s (lines_of (used ++ r))) d.0
-    ∙ ap (λ (u : List ℕ). output_of c keys s (lines_of u)) (append-nil used) ∙ d.1 ∙ sym (append-nil part)
-    ∙ sym (ap (λ (r : List ℕ). part ++ output_of c keys now (lines_of r)) d.0)
+-- the lines of all bytes are those that were used up and those of the rest
+pub lines_left : (used rest : List ℕ) (lines : List (List ℕ)) → AreUsed used lines rest → lines_of (used ++ rest) ≡ lines ++ lines_of rest
+lines_left used rest lines (inl f) = (f rest).0
+lines_left used rest lines (inr d) =
+    ap (λ (r : List ℕ). lines_of (used ++ r)) d.0 ∙ ap lines_of (append-nil used) ∙ d.1 ∙ sym (append-nil lines)
+    ∙ sym (ap (λ (r : List ℕ). lines ++ lines_of r) d.0)
 
 pub not_none : {P : Type 0} (line rest : List ℕ) (b : ℕ) → [] ≡ (line ++ b ∷ []) ++ rest → P
 not_none [] rest b e = cc
@@ -59,50 +64,113 @@ pub front_none : (line rest : List ℕ) → [] ≡ line ++ rest → line ≡ []
 front_none [] rest e = refl
 front_none (x ∷ xs) rest e = cc
 
-known_line : (c : Config) (keys : List RootKeys) (s now new : Machine) (used part a b b' line : List ℕ) (out w w' : Option (List ℕ)) → a ≡ used ++ b → Appends out w part → (GoesOn c keys s used now part ⊎ ((b ≡ []) × (output_of c keys s (lines_of used) ≡ part)))
-    → HasNoBreak line → LineUsed (Some b) line (Some b') → new ≡ state_after c keys now line → Appends w w' (answer_line c keys now line) → IsUnderWay c keys s (Some a) out (Some b') new w'
-known_line c keys s now new used part a b b' line out w w' e p (inl f) clear (inl ends) state wrote =
-    (used ++ (line ++ 10 ∷ []), part ++ answer_line c keys now line, e ∙ ap (λ (r : List ℕ). used ++ r) ends ∙ sym (append_assoc used (line ++ 10 ∷ []) b'), Appends_then _ _ _ _ _ p wrote, inl (subst (λ (m : Machine). GoesOn c keys s (used ++ (line ++ 10 ∷ [])) m (part ++ answer_line c keys now line)) (sym state) (goes_on_line c keys s now used part line clear f)))
-known_line c keys s now new used part a b b' line out w w' e p (inl f) clear (inr last) state wrote =
-    (used ++ line, part ++ answer_line c keys now line, e ∙ ap (λ (r : List ℕ). used ++ r) last.0 ∙ sym (append_assoc used line b'), Appends_then _ _ _ _ _ p wrote, inr (last.2, last_line_done c keys s now used part line clear last.1 f))
-known_line c keys s now new used part a b b' line out w w' e p (inr d) clear (inl ends) state wrote = not_none line b' 10 (sym d.0 ∙ ends)
-known_line c keys s now new used part a b b' line out w w' e p (inr d) clear (inr last) state wrote = absurd (last.1 (front_none line b' (sym d.0 ∙ last.0)))
+-- one more line was used up
+used_next : (used line a b b' : List ℕ) (lines : List (List ℕ)) → a ≡ used ++ b → AreUsed used lines b → HasNoBreak line → LineUsed (Some b) line (Some b')
+    → (more : List ℕ) × (a ≡ more ++ b') × AreUsed more (lines ++ line ∷ []) b'
+used_next used line a b b' lines e (inl f) clear (inl ends) = (
+  used ++ (line ++ 10 ∷ []),
+  e ∙ ap (λ (r : List ℕ). used ++ r) ends ∙ sym (append_assoc used (line ++ 10 ∷ []) b'),
+  inl (λ later. (
+    ap lines_of (append_assoc used (line ++ 10 ∷ []) later) ∙ (f ((line ++ 10 ∷ []) ++ later)).0
+    ∙ ap (λ (ls : List (List ℕ)). lines ++ ls) (line_first line later clear) ∙ sym (append_assoc lines (line ∷ []) (lines_of later)),
+    ap whole_lines (append_assoc used (line ++ 10 ∷ []) later) ∙ (f ((line ++ 10 ∷ []) ++ later)).1
+    ∙ ap (λ (ls : List (List ℕ)). lines ++ ls) (whole_first line later clear) ∙ sym (append_assoc lines (line ∷ []) (whole_lines later)),
+  )),
+)
+used_next used line a b b' lines e (inl f) clear (inr last) = (
+  used ++ line,
+  e ∙ ap (λ (r : List ℕ). used ++ r) last.0 ∙ sym (append_assoc used line b'),
+  inr (last.2, (f line).0 ∙ ap (λ (ls : List (List ℕ)). lines ++ ls) (lines_of-last line last.1 clear)),
+)
+used_next used line a b b' lines e (inr d) clear (inl ends) = not_none line b' 10 (sym d.0 ∙ ends)
+used_next used line a b b' lines e (inr d) clear (inr last) = absurd (last.1 (front_none line b' (sym d.0 ∙ last.0)))
 
-pub under_way_then : (c : Config) (keys : List RootKeys) (s now new : Machine) (a b b' out w w' : Option (List ℕ)) → IsUnderWay c keys s a out b now w → Turns c keys b now w true b' new w' → IsUnderWay c keys s a out b' new w'
-under_way_then c keys s now new None b b' out w w' u t = tt
-under_way_then c keys s now new (Some a) None b' out w w' u t = absurd u
-under_way_then c keys s now new (Some a) (Some b) None out w w' u t = elim t.2 [ inl e ↦ absurd e | inr e ↦ absurd e.0 ]
-under_way_then c keys s now new (Some a) (Some b) (Some b') out w w' u t =
-    known_line c keys s now new u.0 u.1 a b b' t.0 out w w' u.2 u.3 u.4 t.1 t.2 t.3 t.4
+-- ---- turns
 
-pub all_under_way : (c : Config) (keys : List RootKeys) (s now new : Machine) (a b b' out w w' : Option (List ℕ)) → IsUnderWay c keys s a out b now w → Turns c keys b now w false b' new w' → WritesAll c keys s a out w'
-all_under_way c keys s now new None b b' out w w' u t = tt
-all_under_way c keys s now new (Some a) None b' out w w' u t = absurd u
-all_under_way c keys s now new (Some a) (Some b) None out w w' u t = absurd t.0
-all_under_way c keys s now new (Some a) (Some b) (Some b') out w w' u t =
+-- at the beginning nothing is used up
+pub under_way_first : (c : Config) (keys : List RootKeys) (s : Desk) (left : Option (List ℕ)) (o : Outside) (pending : List ℕ) → pending ≡ [] → IsUnderWay c keys s left o (prepend_known pending left) s o
+under_way_first c keys s None o pending e = tt
+under_way_first c keys s (Some left) o pending e = ([], [], [], sym (ap (λ (p : List ℕ). p ++ left) e), inl (λ later. (refl, refl)), refl, refl, told_none o.clock, Appends_none o.written)
+
+pub under_way_then : (c : Config) (keys : List RootKeys) (s now new : Desk) (a b b' : Option (List ℕ)) (o w w' : Outside) → IsUnderWay c keys s a o b now w → Turns c keys b now w true b' new w' → IsUnderWay c keys s a o b' new w'
+under_way_then c keys s now new None b b' o w w' u t = tt
+under_way_then c keys s now new (Some a) None b' o w w' u t = absurd u
+under_way_then c keys s now new (Some a) (Some b) None o w w' u t = elim t.3 [ inl e ↦ absurd e | inr e ↦ absurd e.0 ]
+under_way_then c keys s now new (Some a) (Some b) (Some b') o w w' u t =
+    let lines = u.1 in
+    let readings = u.2 in
+    let next = used_next u.0 t.0 a b b' lines u.3 u.4 t.2 t.3 in
+    let state : new ≡ desk_after_all c keys s (lines ++ t.0 ∷ []) (readings ++ t.1 ∷ []) = t.4 ∙ ap (λ (d : Desk). desk_then c keys d t.0 t.1) u.6 ∙ sym (desk-append c keys s lines readings t.0 t.1 u.5) in
+    let one : output_of c keys s lines readings ++ answer_line c keys now t.0 t.1 ≡ output_of c keys s (lines ++ t.0 ∷ []) (readings ++ t.1 ∷ []) =
+        ap (λ (d : Desk). output_of c keys s lines readings ++ answer_line c keys d t.0 t.1) u.6 ∙ sym (output-one c keys s lines readings t.0 t.1 u.5) in (
+      next.0,
+      lines ++ t.0 ∷ [],
+      readings ++ t.1 ∷ [],
+      next.1,
+      next.2,
+      omega (arith, u.5, length-append lines (t.0 ∷ []), length-append readings (t.1 ∷ [])),
+      state,
+      told_then o.clock w.clock w'.clock readings (t.1 ∷ []) u.7 t.5,
+      subst (λ (bs : List ℕ). Appends o.written w'.written bs) one (Appends_then o.written w.written w'.written _ _ u.8 t.6),
+    )
+
+-- the lines that were used up are these, and nothing more was read or written
+pub writes_used : (c : Config) (keys : List RootKeys) (s : Desk) (lines all : List (List ℕ)) (readings : List ℕ) (o w w' : Outside) → all ≡ lines → length readings ≡ length lines
+    → Told o.clock w.clock readings → Appends o.written w.written (output_of c keys s lines readings) → Told w.clock w'.clock [] → Keeps w.written w'.written → Writes c keys s all o w'
+writes_used c keys s lines all readings o w w' e many told wrote still keeps = (
+  readings,
+  many ∙ sym (ap length e),
+  subst (λ (rs : List ℕ). Told o.clock w'.clock rs) (append-nil readings) (told_then o.clock w.clock w'.clock readings [] told still),
+  subst (λ (ls : List (List ℕ)). Appends o.written w'.written (output_of c keys s ls readings)) (sym e) (Appends_kept o.written w.written w'.written _ wrote keeps),
+)
+
+pub all_under_way : (c : Config) (keys : List RootKeys) (s now new : Desk) (a b b' : Option (List ℕ)) (o w w' : Outside) → IsUnderWay c keys s a o b now w → Turns c keys b now w false b' new w' → WritesAll c keys s a o w'
+all_under_way c keys s now new None b b' o w w' u t = tt
+all_under_way c keys s now new (Some a) None b' o w w' u t = absurd u
+all_under_way c keys s now new (Some a) (Some b) None o w w' u t = absurd t.0
+all_under_way c keys s now new (Some a) (Some b) (Some b') o w w' u t =
     let none : b ≡ [] = t.0 ∙ t.1 in
-    let whole = ap (λ (bs : List ℕ). output_of c keys s (lines_of bs)) u.2 ∙ whole_is c keys s now u.0 u.1 b u.4 in
-    let all : output_of c keys s (lines_of a) ≡ u.1 = whole ∙ ap (λ (r : List ℕ). u.1 ++ output_of c keys now (lines_of r)) none ∙ append-nil u.1 in
-    subst (λ (bs : List ℕ). Appends out w' bs) (sym all) (Appends_kept out w w' u.1 u.3 t.2)
+    let all : lines_of a ≡ u.1 = ap lines_of u.3 ∙ lines_left u.0 b u.1 u.4 ∙ ap (λ (r : List ℕ). u.1 ++ lines_of r) none ∙ append-nil u.1 in
+    writes_used c keys s u.1 (lines_of a) u.2 o w w' all u.5 u.7 u.8 t.2 t.3
 
 -- a front of what is left is one of all
-pub front_under_way : (c : Config) (keys : List RootKeys) (s now : Machine) (a b out w w' : Option (List ℕ)) → IsUnderWay c keys s a out b now w → WritesFront c keys now b w w' → WritesFront c keys s a out w'
-front_under_way c keys s now None b out w w' u p = tt
-front_under_way c keys s now (Some a) None out w w' u p = absurd u
-front_under_way c keys s now (Some a) (Some b) out w w' u p =
-    let whole = ap (λ (bs : List ℕ). output_of c keys s (lines_of bs)) u.2 ∙ whole_is c keys s now u.0 u.1 b u.4 in
-    subst (λ (bs : List ℕ). AppendsFront out w' bs) (sym whole) (AppendsFront_then out w w' u.1 _ u.3 p)
+pub front_under_way : (c : Config) (keys : List RootKeys) (s now : Desk) (a b : Option (List ℕ)) (o w w' : Outside) → IsUnderWay c keys s a o b now w → WritesFront c keys now b w w' → WritesFront c keys s a o w'
+front_under_way c keys s now None b o w w' u p = tt
+front_under_way c keys s now (Some a) None o w w' u p = absurd u
+front_under_way c keys s now (Some a) (Some b) o w w' u p =
+    let all : lines_of a ≡ u.1 ++ lines_of b = ap lines_of u.3 ∙ lines_left u.0 b u.1 u.4 in
+    let text : output_of c keys s u.1 u.2 ++ output_of c keys now (lines_of b) p.0 ≡ output_of c keys s (lines_of a) (u.2 ++ p.0) =
+        ap (λ (d : Desk). output_of c keys s u.1 u.2 ++ output_of c keys d (lines_of b) p.0) u.6
+        ∙ sym (output-append c keys s u.1 (lines_of b) u.2 p.0 u.5) ∙ sym (ap (λ (ls : List (List ℕ)). output_of c keys s ls (u.2 ++ p.0)) all) in (
+      u.2 ++ p.0,
+      omega (arith, length-append u.2 p.0, length-append u.1 (lines_of b), ap length all, u.5, p.1),
+      told_then o.clock w.clock w'.clock u.2 p.0 u.7 p.2,
+      subst (λ (bs : List ℕ). AppendsFront o.written w'.written bs) text (AppendsFront_then o.written w.written w'.written _ _ u.8 p.3),
+    )
+
+-- the first line is this one
+first_used : (a b line : List ℕ) → HasNoBreak line → LineUsed (Some a) line (Some b) → (more : List (List ℕ)) × (lines_of a ≡ line ∷ more)
+first_used a b line clear (inl ends) = (lines_of b, ap lines_of ends ∙ line_first line b clear)
+first_used a b line clear (inr last) = ([], ap lines_of (last.0 ∙ ap (λ (r : List ℕ). line ++ r) last.2 ∙ append-nil line) ∙ lines_of-last line last.1 clear)
+
+some_of_first : (c : Config) (keys : List RootKeys) (s : Desk) (line : List ℕ) (lines more : List (List ℕ)) (reading : ℕ) (w w' : Outside) → lines ≡ line ∷ more
+    → Told w.clock w'.clock (reading ∷ []) → AppendsFront w.written w'.written (answer_line c keys s line reading) → WritesSome c keys s lines w w'
+some_of_first c keys s line lines more reading w w' e told p = (
+  reading ∷ [],
+  omega (arith, ap length e),
+  told,
+  subst (λ (ls : List (List ℕ)). AppendsFront w.written w'.written (output_of c keys s ls (reading ∷ []))) (sym e) (AppendsFront_more w.written w'.written (answer_line c keys s line reading) _ p),
+)
 
 -- a front of one line's answer is one of all
-pub front_of_line : (c : Config) (keys : List RootKeys) (s : Machine) (a b w w' : Option (List ℕ)) (line : List ℕ) → HasNoBreak line → LineUsed a line b → AppendsFront w w' (answer_line c keys s line) → WritesFront c keys s a w w'
-front_of_line c keys s None b w w' line clear uses p = tt
-front_of_line c keys s (Some a) None w w' line clear uses p = elim uses [ inl e ↦ absurd e | inr e ↦ absurd e.0 ]
-front_of_line c keys s (Some a) (Some b) w w' line clear (inl ends) p =
-    subst (λ (bs : List ℕ). AppendsFront w w' bs) (sym (ap (λ (bs : List ℕ). output_of c keys s (lines_of bs)) ends ∙ ap (λ (ls : List (List ℕ)). output_of c keys s ls) (line_first line b clear))) (AppendsFront_more w w' (answer_line c keys s line) _ p)
-front_of_line c keys s (Some a) (Some b) w w' line clear (inr last) p =
-    let is : a ≡ line = last.0 ∙ ap (λ (r : List ℕ). line ++ r) last.2 ∙ append-nil line in
-    subst (λ (bs : List ℕ). AppendsFront w w' bs) (sym (ap (λ (bs : List ℕ). output_of c keys s (lines_of bs)) is ∙ ap (λ (ls : List (List ℕ)). output_of c keys s ls) (lines_of-last line last.1 clear))) (AppendsFront_more w w' (answer_line c keys s line) _ p)
+pub front_of_line : (c : Config) (keys : List RootKeys) (s : Desk) (a b : Option (List ℕ)) (w w' : Outside) (line : List ℕ) (reading : ℕ) → HasNoBreak line → LineUsed a line b
+    → Told w.clock w'.clock (reading ∷ []) → AppendsFront w.written w'.written (answer_line c keys s line reading) → WritesFront c keys s a w w'
+front_of_line c keys s None b w w' line reading clear uses told p = tt
+front_of_line c keys s (Some a) None w w' line reading clear uses told p = elim uses [ inl e ↦ absurd e | inr e ↦ absurd e.0 ]
+front_of_line c keys s (Some a) (Some b) w w' line reading clear uses told p =
+    let first = first_used a b line clear uses in
+    some_of_first c keys s line (lines_of a) first.0 reading w w' first.1 told p
 
-pub front_of_none : (c : Config) (keys : List RootKeys) (s : Machine) (a w w' : Option (List ℕ)) → Keeps w w' → WritesFront c keys s a w w'
-front_of_none c keys s None w w' k = tt
-front_of_none c keys s (Some a) w w' k = AppendsFront_none w w' _ k
+pub front_of_none : (c : Config) (keys : List RootKeys) (s : Desk) (a : Option (List ℕ)) (w w' : Outside) → Told w.clock w'.clock [] → Keeps w.written w'.written → WritesFront c keys s a w w'
+front_of_none c keys s None w w' told k = tt
+front_of_none c keys s (Some a) w w' told k = ([], omega arith, told, AppendsFront_none w.written w'.written _ k)

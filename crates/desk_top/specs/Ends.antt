@@ -33,7 +33,7 @@ Closes before now None = Keeps before.bytes now.bytes
 Closes before now (Some line) = Prints before.faults now.faults before.bytes now.bytes line
 
 -- The run kept its promises to some end, whose last line was printed behind all else, and it has the status of that end.
-pub record Ends {S T O : Type 0} (run : Run S T O) (told : ℕ) : Type 0 where
+pub record Ends {S T O K : Type 0} (run : Run S T O K) (told : ℕ) : Type 0 where
   pub end : End
   -- what is seen of the output before the last line
   pub out : Seen O

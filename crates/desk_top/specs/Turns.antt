@@ -1,61 +1,87 @@
 -- One line after another is heard and answered.
-use Rattle.std.specs.Prelude.{◌≡◌, ◌≢◌, ◌⊎◌, ◌<◌, ◌≤◌, ℕ, List, [], ◌∷◌, ◌++◌, take, Bool, true, false, Option, Some, None}
+use Rattle.std.specs.Prelude.{◌≡◌, ◌≢◌, ◌⊎◌, ◌<◌, ◌≤◌, ◌+◌, ◌^◌, ℕ, List, [], ◌∷◌, ◌++◌, length, take, Bool, true, false, Option, Some, None}
 use Rattle.std.specs.Io.KnownBytes.{Appends, Consumes, IsAtEnd, Keeps}
+use Rattle.disk_model.specs.Moments.{Told}
 use Rattle.disk_model.specs.Written.{AppendsFront}
 use Rattle.line_reader.specs.Lines.{HasNoBreak, lines_of, whole_lines}
 use Rattle.agreements.specs.Walk.{Config}
 use Rattle.wire_ids.specs.declared.keys.RootKeys.{RootKeys}
-use Rattle.js_core.specs.Machine.{Machine}
-use Rattle.js_core.specs.Step.{state_after}
-use Rattle.desk_top.specs.Output.{answer_line, output_of}
+use Rattle.entry_codec.specs.Machine.{Machine}
+use Rattle.roam_core.specs.Desk.{Desk, IsStateOf}
+use Rattle.roam_core.specs.Entering.{KnowsSenders}
+use Rattle.desk_top.specs.Output.{answer_line, desk_after_all, desk_then, output_of}
 
--- the answers to all lines of the input were written, where it tells what it has
-abbrev pub WritesAll : Config → List RootKeys → Machine → Option (List ℕ) → Option (List ℕ) → Option (List ℕ) → Type 0
-WritesAll c keys s None out written = Unit {0}
-WritesAll c keys s (Some bytes) out written = Appends out written (output_of c keys s (lines_of bytes))
+-- what is told of the clock and of the output
+pub record Outside : Type 0 where
+  -- the readings of the clock that come next
+  pub clock : Option (ℕ → ℕ)
+  pub written : Option (List ℕ)
 
--- a front of them was written
-abbrev pub WritesFront : Config → List RootKeys → Machine → Option (List ℕ) → Option (List ℕ) → Option (List ℕ) → Type 0
-WritesFront c keys s None out written = Unit {0}
-WritesFront c keys s (Some bytes) out written = AppendsFront out written (output_of c keys s (lines_of bytes))
+-- the clock was read once for each of these lines, and the answers to them were written
+abbrev pub Writes : Config → List RootKeys → Desk → List (List ℕ) → Outside → Outside → Type 0
+Writes c keys s lines before now = (readings : List ℕ) × (length readings ≡ length lines) × Told before.clock now.clock readings
+    × Appends before.written now.written (output_of c keys s lines readings)
 
--- the answers to all lines were written whose end was taken and is among the first bytes
-abbrev pub WritesTaken : ℕ → Config → List RootKeys → Machine → Option (List ℕ) → Option (List ℕ) → Option (List ℕ) → Option (List ℕ) → Type 0
-WritesTaken limit c keys s None after out written = Unit {0}
-WritesTaken limit c keys s (Some bytes) None out written = ⊥
-WritesTaken limit c keys s (Some bytes) (Some rest) out written = (taken : List ℕ) × (bytes ≡ taken ++ rest) × Appends out written (output_of c keys s (whole_lines (take limit taken)))
+-- the clock was read for no more than these lines, and a front of the answers was written to those for which it was
+abbrev pub WritesSome : Config → List RootKeys → Desk → List (List ℕ) → Outside → Outside → Type 0
+WritesSome c keys s lines before now = (readings : List ℕ) × (length readings ≤ length lines) × Told before.clock now.clock readings
+    × AppendsFront before.written now.written (output_of c keys s lines readings)
 
--- these, or those to all lines where the input had ended
-abbrev pub WritesWhole : ℕ → Config → List RootKeys → Machine → Option (List ℕ) → Option (List ℕ) → Option (List ℕ) → Option (List ℕ) → Type 0
-WritesWhole limit c keys s None after out written = Unit {0}
-WritesWhole limit c keys s (Some bytes) None out written = ⊥
-WritesWhole limit c keys s (Some bytes) (Some rest) out written = WritesTaken limit c keys s (Some bytes) (Some rest) out written
-    ⊎ ((rest ≡ []) × Appends out written (output_of c keys s (lines_of bytes)))
+-- so all lines of the input were answered, where it tells what it has
+abbrev pub WritesAll : Config → List RootKeys → Desk → Option (List ℕ) → Outside → Outside → Type 0
+WritesAll c keys s None before now = Unit {0}
+WritesAll c keys s (Some bytes) before now = Writes c keys s (lines_of bytes) before now
+
+-- so a front of the answers to them was written
+abbrev pub WritesFront : Config → List RootKeys → Desk → Option (List ℕ) → Outside → Outside → Type 0
+WritesFront c keys s None before now = Unit {0}
+WritesFront c keys s (Some bytes) before now = WritesSome c keys s (lines_of bytes) before now
+
+-- so all lines were answered whose end was taken and is among the first bytes
+abbrev pub WritesTaken : ℕ → Config → List RootKeys → Desk → Option (List ℕ) → Option (List ℕ) → Outside → Outside → Type 0
+WritesTaken limit c keys s None after before now = Unit {0}
+WritesTaken limit c keys s (Some bytes) None before now = ⊥
+WritesTaken limit c keys s (Some bytes) (Some rest) before now = (taken : List ℕ) × (bytes ≡ taken ++ rest) × Writes c keys s (whole_lines (take limit taken)) before now
+
+-- these, or all lines where the input had ended
+abbrev pub WritesWhole : ℕ → Config → List RootKeys → Desk → Option (List ℕ) → Option (List ℕ) → Outside → Outside → Type 0
+WritesWhole limit c keys s None after before now = Unit {0}
+WritesWhole limit c keys s (Some bytes) None before now = ⊥
+WritesWhole limit c keys s (Some bytes) (Some rest) before now = WritesTaken limit c keys s (Some bytes) (Some rest) before now
+    ⊎ ((rest ≡ []) × Writes c keys s (lines_of bytes) before now)
 
 -- a line was used up, with its end, or at the end of the input
 abbrev pub LineUsed : Option (List ℕ) → List ℕ → Option (List ℕ) → Type 0
 LineUsed before line after = Consumes before after (line ++ 10 ∷ []) ⊎ (Consumes before after line × (line ≢ []) × IsAtEnd after)
 
--- where a line came it was answered, and else nothing was left
-abbrev pub Turns : Config → List RootKeys → Option (List ℕ) → Machine → Option (List ℕ) → Bool → Option (List ℕ) → Machine → Option (List ℕ) → Type 0
-Turns c keys before s out true after now written = (line : List ℕ) × HasNoBreak line × LineUsed before line after
-    × (now ≡ state_after c keys s line) × Appends out written (answer_line c keys s line)
-Turns c keys before s out false after now written = Consumes before after [] × IsAtEnd after × Keeps out written
+-- where a line came the clock was read and the line was answered, and else nothing was left
+abbrev pub Turns : Config → List RootKeys → Option (List ℕ) → Desk → Outside → Bool → Option (List ℕ) → Desk → Outside → Type 0
+Turns c keys left s before true after new now = (line : List ℕ) × (reading : ℕ) × HasNoBreak line × LineUsed left line after
+    × (new ≡ desk_then c keys s line reading) × Told before.clock now.clock (reading ∷ []) × Appends before.written now.written (answer_line c keys s line reading)
+Turns c keys left s before false after new now = Consumes left after [] × IsAtEnd after × Told before.clock now.clock [] × Keeps before.written now.written
 
--- behind what was used up the lines are answered in this state, and before it this was written
-abbrev pub GoesOn : Config → List RootKeys → Machine → List ℕ → Machine → List ℕ → Type 0
-GoesOn c keys s used now part = (later : List ℕ) →
-    (output_of c keys s (lines_of (used ++ later)) ≡ part ++ output_of c keys now (lines_of later))
-    × (output_of c keys s (whole_lines (used ++ later)) ≡ part ++ output_of c keys now (whole_lines later))
+-- these lines were used up, and the others are those of what is left, or nothing is left
+abbrev pub AreUsed : List ℕ → List (List ℕ) → List ℕ → Type 0
+AreUsed used lines rest = ((later : List ℕ) → (lines_of (used ++ later) ≡ lines ++ lines_of later) × (whole_lines (used ++ later) ≡ lines ++ whole_lines later))
+    ⊎ ((rest ≡ []) × (lines_of used ≡ lines))
 
--- after some turns: the lines that were used up are answered, or all are
-abbrev pub IsUnderWay : Config → List RootKeys → Machine → Option (List ℕ) → Option (List ℕ) → Option (List ℕ) → Machine → Option (List ℕ) → Type 0
-IsUnderWay c keys s None out after now written = Unit {0}
-IsUnderWay c keys s (Some bytes) out None now written = ⊥
-IsUnderWay c keys s (Some bytes) out (Some rest) now written = (used part : List ℕ) × (bytes ≡ used ++ rest) × Appends out written part
-    × (GoesOn c keys s used now part ⊎ ((rest ≡ []) × (output_of c keys s (lines_of used) ≡ part)))
+-- after some turns: the lines that were used up are answered
+abbrev pub IsUnderWay : Config → List RootKeys → Desk → Option (List ℕ) → Outside → Option (List ℕ) → Desk → Outside → Type 0
+IsUnderWay c keys s None before after new now = Unit {0}
+IsUnderWay c keys s (Some bytes) before None new now = ⊥
+IsUnderWay c keys s (Some bytes) before (Some rest) new now = (used : List ℕ) × (lines : List (List ℕ)) × (readings : List ℕ) × (bytes ≡ used ++ rest) × AreUsed used lines rest
+    × (length readings ≡ length lines) × (new ≡ desk_after_all c keys s lines readings)
+    × Told before.clock now.clock readings × Appends before.written now.written (output_of c keys s lines readings)
 
 -- a turn takes a byte, unless it is the last
 abbrev pub Spends : Bool → ℕ → ℕ → Type 0
 Spends true before now = now < before
 Spends false before now = now ≤ before
+
+-- the state is one of these tables, whose history has begun, and there are numbers for so many entries more
+pub record IsOpen (c : Config) (most : ℕ) (m : Machine) : Type 0 where
+  pub state : IsStateOf c m
+  pub senders : KnowsSenders c m
+  pub begun : 0 < m.entries
+  pub moment : m.moment ≤ 2 ^ 53
+  pub room : m.entries + most < 2 ^ 63

@@ -4,6 +4,7 @@
 
 mod answering;
 mod counts;
+mod event;
 mod fault;
 mod last_line;
 mod opening;

@@ -2,17 +2,20 @@ ghost use Rattle.std.specs.Prelude.{◌≡◌, ◌<◌, ◌≤◌, ◌++◌, Lis
 ghost use Rattle.std.specs.Prelude.{IfErr, IsErrOf};
 ghost use Rattle.std.specs.Io.KnownBytes.{Consumes, IsAtEnd};
 ghost use Rattle.wire_ids.specs.Causes.{Rose};
-ghost use Rattle.js_core.specs.Agreement.{StepsAgree};
+ghost use Rattle.agreements.specs.Walk.{tables_of};
+ghost use Rattle.roam_core.specs.Agreement.{AgreeOver};
 ghost use Rattle.desk_top.specs.Faults.{IsOfReading};
 ghost use Rattle.desk_top.specs.Opening.{Tells, Unopened};
-ghost use Rattle.desk_top.specs.Text.{ReadsText, ReadsTables, text_room};
+ghost use Rattle.desk_top.specs.Text.{ReadsText, text_room};
+ghost use Rattle.desk_top.specs.declared.fault.Fault.TheVariants as fault;
 
 use crate::fault::Fault;
 use crate::last_line::refused_text;
 use agreements::{Tables, TablesFault, Unread, read_tables};
 use disk_model::Source;
-use js_core::steps_agree;
+use roam_core::answers_agree;
 use std::alloc::Global;
+use wire_ids::LongText;
 
 /// One byte more than a tables text may have: the byte that shows it to be too long.
 const TEXT_ROOM: usize = 4194305;
@@ -82,10 +85,30 @@ fn refused(alloc: Global, refusal: &TablesFault) -> Fault
     }
 }
 
+/// Valid tables, and their text.
+#[derive(Drop)]
+pub(crate) struct TablesText {
+    pub(crate) tables: Tables,
+    pub(crate) text: LongText,
+}
+
+// Tables, and their text, which is no longer than a tables text may be.
+fn with_text(tables: Tables, text: Vec<u8>) -> Result<TablesText, Fault>
+    ensures text { IfOk result (λ both. both.text ≡ text.items) }
+    ensures tables { IfOk result (λ both. both.tables ≡ tables) }
+    ensures memory { IfErr result (λ e. e ≡ fault.Memory) }
+{
+    match LongText::new(text) {
+        Some(text) => Ok(TablesText { tables, text }),
+        None => Err(Fault::Memory),
+    }
+}
+
 // The tables of a source's text.
-pub(crate) fn open_tables<S: Source>(alloc: Global, source: &mut S) -> Result<Tables, Fault>
-    ensures tables { IfOk result (λ tables. ReadsTables (S.left source.old) (Ok tables)) }
-    ensures agree { IfOk result StepsAgree }
+pub(crate) fn open_tables<S: Source>(alloc: Global, source: &mut S) -> Result<TablesText, Fault>
+    ensures text { IfOk result (λ both. ReadsText text_room (S.left source.old) both.text) }
+    ensures tables { IfOk result (λ both. tables_of both.text ≡ Ok both.tables) }
+    ensures agree { IfOk result (λ both. AgreeOver both.tables) }
     ensures unopened { IfErr result (Unopened (S.left source.old) (S.faults source.old)
         (S.faults source.new)) }
     ensures taken { (bytes : List ℕ) × Consumes (S.left source.old) (S.left source.new) bytes
@@ -94,8 +117,8 @@ pub(crate) fn open_tables<S: Source>(alloc: Global, source: &mut S) -> Result<Ta
     let text = read_text(alloc, TEXT_ROOM, source)?;
     match read_tables(alloc, &text) {
         Ok(tables) => {
-            steps_agree(&tables);
-            Ok(tables)
+            answers_agree(&tables);
+            with_text(tables, text)
         }
         Err(Unread::Refused(refusal)) => Err(refused(alloc, &refusal)),
         Err(Unread::Memory) => Err(Fault::Memory),

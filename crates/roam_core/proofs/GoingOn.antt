@@ -1,83 +1,62 @@
--- A legal history goes on legally by the entry of a line.
-use Rattle.std.proofs.Common.{◌≡◌, ℕ, ◌+◌, nat_lt, List, [], ◌∷◌, ◌++◌, Some, Result, Ok, Err, IsTrue, subst, arith, lt-ltb}
+-- A legal history goes on legally by the entry of each line.
+use Rattle.std.proofs.Common.{◌≡◌, ◌<◌, ℕ, ◌+◌, List, [], ◌∷◌, ◌++◌, length, true, Some, refl, sym, ap, ◌∙◌, subst, arith}
+use Rattle.std.specs.List.{list_any}
+use Rattle.std.specs.Prelude.{IsTrue, nat_lt}
 use Rattle.wire_ids.specs.Decisions.{entry_of}
-use Rattle.wire_ids.specs.declared.decision.Decision.TheVariants as decision
 use Rattle.wire_ids.specs.declared.keys.RootKeys.{RootKeys}
 use Rattle.agreements.specs.Walk.{Config}
-use Rattle.backend_json.specs.declared.answer.Answer.{Answer}
-use Rattle.backend_json.specs.declared.head.Head.{Head}
-use Rattle.backend_json.specs.declared.message.Bad.{Bad}
-use Rattle.backend_json.specs.declared.message.Message.{Message}
-use Rattle.backend_json.specs.Messages.{message_of}
-use Rattle.entries.specs.declared.change.Change.{Change}
 use Rattle.entries.specs.declared.entry.Entry.{Entry}
 use Rattle.entry_codec.specs.Empty.{empty}
-use Rattle.entry_codec.specs.Fits.{fits}
-use Rattle.entry_codec.specs.Machine.{Machine, after, on_event, ready}
-use Rattle.js_core.specs.Replies.{JsDecision}
-use Rattle.key_vault.specs.Table.{app_at, nwk_at}
-use Rattle.roam_core.specs.Decided.{decided, entry_in, with_entry}
+use Rattle.entry_codec.specs.Fits.{fits, is_time}
+use Rattle.entry_codec.specs.LookUps.{is_same_sender}
+use Rattle.entry_codec.specs.Machine.{Machine, after, ready}
+use Rattle.entry_codec.proofs.Stays.{stays-event, stays-ready}
+use Rattle.roam_core.specs.Decided.{entry_in}
 use Rattle.roam_core.specs.Desk.{Desk, IsStateOf, desk_after, empty_desk}
-use Rattle.roam_core.specs.Entering.{CanEnter, EntriesFit, StatesStay}
-use Rattle.roam_core.specs.Legal.{IsStep, LinesGoOn, MayFollow, desk_from}
-use Rattle.roam_core.specs.Lines.{decided_of, line_decided, reaction}
+use Rattle.roam_core.specs.Entering.{KnowsSenders}
+use Rattle.roam_core.specs.Legal.{IsLegal, IsStep, LinesGoOn, MayFollow, desk_at, desk_from}
+use Rattle.roam_core.specs.Lines.{line_decided, reaction}
+use Rattle.roam_core.proofs.Fitting.{entries_fit}
+use Rattle.roam_core.proofs.Outcomes.{accepted}
+use Rattle.roam_core.proofs.Staying.{senders_after, state_after, state_first}
 
--- ---- the entry of a line
+-- one more entry
+follows : (c : Config) (keys : List RootKeys) (es : List Entry) (s : Desk) (e : Entry) → MayFollow c keys s es → IsTrue (fits (desk_from s es).now e) → IsStep c keys (desk_from s es) e e.event → MayFollow c keys s (es ++ e ∷ [])
+follows c keys [] s e may fit step = (fit, step, tt)
+follows c keys (x ∷ es) s e may fit step = (may.0, may.1, follows c keys es (desk_after s x) e may.2 fit step)
 
--- an entry that was made of this body at this moment
-record IsMadeOf (body : List ℕ) (now : ℕ) (e : Entry) : Type 0 where
-  head : Head
-  answer : Answer
-  change : Change
-  is_entry : entry_in head body now answer change ≡ e
+entries_after : (m : Machine) (e : Entry) → (after m e).entries ≡ m.entries + 1
+entries_after m e = ap (λ (n : ℕ). n + 1) ((stays-event e.event (ready m e)).entries ∙ (stays-ready m e).entries)
 
-made_by_decision : (head : Head) (body : List ℕ) (now : ℕ) (d : JsDecision) (e : Entry) → entry_of (with_entry head body now d) ≡ Some e → IsMadeOf body now e
-made_by_decision head body now (decision.Repeat text) e is = absurd cc
-made_by_decision head body now (decision.Reply answer) e is = absurd cc
-made_by_decision head body now (decision.Accept answer change) e is = record { head = head; answer = answer; change = change; is_entry = cc }
-made_by_decision head body now (decision.AskPeer peer question change) e is = elim question [ ]
+-- the state that entries lead to
+record Led (c : Config) (s : Desk) (least : ℕ) : Type 0 where
+  pub state : IsStateOf c s.now
+  pub count : least < s.now.entries + 1
 
-made_by_message : (c : Config) (nwk app : ℕ → List ℕ) (s : Desk) (body : List ℕ) (now : ℕ) (read : Result Message Bad) (e : Entry) → entry_of (decided_of c nwk app s body now read) ≡ Some e → IsMadeOf body now e
-unfolding decided
-made_by_message c nwk app s body now (Err fault) e is = absurd cc
-made_by_message c nwk app s body now (Ok message) e is = made_by_decision message.head body now _ e is
+led : (c : Config) (es : List Entry) (s : Desk) (least : ℕ) → Led c s least → Led c (desk_from s es) (least + length es)
+led c [] s least l = record { state = l.state; count = omega (arith, l.count) }
+led c (e ∷ es) s least l =
+    let rest = led c es (desk_after s e) (least + 1) (record { state = state_after c s.now e l.state; count = omega (arith, l.count, entries_after s.now e) }) in
+    record { state = rest.state; count = omega (arith, rest.count) }
 
-made_by_line : (c : Config) (keys : List RootKeys) (s : Desk) (body : List ℕ) (now : ℕ) (e : Entry) → entry_of (line_decided c keys s body now) ≡ Some e → IsMadeOf body now e
-unfolding line_decided
-made_by_line c keys s body now e is = made_by_message c (nwk_at keys) (app_at keys) s body now (message_of body) e is
-
-line_step : (c : Config) (keys : List RootKeys) (s : Desk) (body : List ℕ) (now : ℕ) (e : Entry) → entry_of (line_decided c keys s body now) ≡ Some e → IsStep c keys s e e.event
-line_step c keys s body now e is =
-    let made = made_by_line c keys s body now e is in
-    subst (λ (x : Entry). entry_of (line_decided c keys s body now) ≡ Some x → IsStep c keys s x x.event) made.is_entry (λ same. same) is
-
--- ---- histories
-
-follows : (c : Config) (keys : List RootKeys) (s : Desk) (es : List Entry) (e : Entry) → MayFollow c keys s es → IsTrue (fits (desk_from s es).now e) → IsStep c keys (desk_from s es) e e.event
-    → MayFollow c keys s (es ++ e ∷ [])
-follows c keys s [] e may fit step = (fit, step, tt)
-follows c keys s (x ∷ es) e may fit step = (may.0, may.1, follows c keys (desk_after s x) es e may.2 fit step)
-
--- a state that entries led to has an entry, and is one of the tables
-record Began (c : Config) (m : Machine) : Type 0 where
-  state : IsStateOf c m
-  begun : IsTrue (nat_lt 0 m.entries)
-
-one_more : (n : ℕ) → IsTrue (nat_lt 0 (n + 1))
-one_more n = lt-ltb 0 (n + 1) (omega arith)
-
-began_after : (c : Config) (m : Machine) (e : Entry) → StatesStay → IsStateOf c m → Began c (after m e)
-began_after c m e stay is = record { state = stay.later c m e is; begun = one_more (on_event e.event (ready m e)).entries }
-
-began_from : (c : Config) (s : Desk) (es : List Entry) → StatesStay → Began c s.now → Began c (desk_from s es).now
-began_from c s [] stay is = is
-began_from c s (e ∷ es) stay is = began_from c (desk_after s e) es stay (began_after c s.now e stay is.state)
-
-pub lines_go_on : EntriesFit → StatesStay → LinesGoOn
+-- the entry of a line is the step of its body
+step_of : (c : Config) (keys : List RootKeys) (s : Desk) (body : List ℕ) (now : ℕ) (e : Entry) → (reaction c keys s body now).entry ≡ Some e → IsStep c keys s e e.event
 unfolding reaction
-lines_go_on fit stay c keys [] body now e legal long time made = absurd (omega (arith, long))
-lines_go_on fit stay c keys (first ∷ es) body now e legal long time made =
-    let s = desk_after (empty_desk c) first in
-    let began = began_from c s es stay (began_after c (empty c) first stay (stay.first c)) in
-    let enters : CanEnter c (desk_from s es).now now = record { state = began.state; begun = began.begun; time = time } in
-    (legal.0, legal.1, follows c keys s es e legal.2 (fit c keys (desk_from s es) body now e enters made) (line_step c keys (desk_from s es) body now e made))
+step_of c keys s body now e made =
+    let a = accepted c keys s body now e made in
+    let x = entry_in a.head body now a.answer a.change in
+    let here : entry_of (line_decided c keys s body now) ≡ Some x = made ∙ ap (λ (y : Entry). Some y) a.is_entry in
+    subst (λ (y : Entry). IsStep c keys s y y.event) (sym a.is_entry) here
+
+pub lines_go_on : LinesGoOn
+lines_go_on c keys [] body now e known legal some time made = absurd (omega (arith, some))
+lines_go_on c keys (x ∷ es) body now e known legal some time made =
+    let s = desk_at c (x ∷ es) in
+    let l = led c (x ∷ es) (empty_desk c) 0 (record { state = state_first c; count = omega arith }) in
+    let fit = entries_fit c keys s body now e (record {
+      state = l.state;
+      senders = senders_after c (empty c) s.now (state_first c) l.state known;
+      begun = grind (arith, l.count);
+      time = time;
+    }) made in
+    (legal.0, legal.1, follows c keys es (desk_after (empty_desk c) x) e legal.2 fit (step_of c keys s body now e made))

@@ -50,3 +50,8 @@ LinesAgree = (c : Config) (keys : List RootKeys) (s : Desk) (body : List ℕ) (n
 abbrev pub KeptAgree : Type 0
 KeptAgree = (c : Config) (keys : List RootKeys) (history : List Entry) (body : List ℕ) (now : ℕ)
     → AreValid c → IsLegal c keys history → IsKept c keys history (line_decided c keys (desk_at c history) body now)
+
+-- it is so over these tables
+pub record AgreeOver (c : Config) : Type 0 where
+  pub lines : (keys : List RootKeys) (s : Desk) (body : List ℕ) (now : ℕ) → Agrees c keys s now (line_decided c keys s body now)
+  pub kept : (keys : List RootKeys) (history : List Entry) (body : List ℕ) (now : ℕ) → IsLegal c keys history → IsKept c keys history (line_decided c keys (desk_at c history) body now)

@@ -2,6 +2,7 @@
 use Rattle.std.specs.Prelude.{◌≡◌, ℕ, nat_lt, List, Some, Bool, true, false, IsTrue}
 use Rattle.wire_ids.specs.declared.decision.Decision.TheVariants as decision
 use Rattle.wire_ids.specs.declared.keys.RootKeys.{RootKeys}
+use Rattle.wire_ids.specs.declared.party.Sender.{Sender}
 use Rattle.agreements.specs.Walk.{Config}
 use Rattle.backend_json.specs.declared.answer.Answer.{Answer}
 use Rattle.backend_json.specs.declared.answer.Answer.TheVariants.{Headed, Headless}
@@ -9,16 +10,23 @@ use Rattle.backend_json.specs.declared.answer.Outcome.TheVariants.{AppSKeyAns, H
 use Rattle.entries.specs.declared.entry.Entry.{Entry}
 use Rattle.entry_codec.specs.Empty.{empty}
 use Rattle.entry_codec.specs.Fits.{fits, is_time}
+use Rattle.entry_codec.specs.LookUps.{is_sender}
 use Rattle.entry_codec.specs.Machine.{Machine, after}
+use Rattle.js_core.specs.Parties.{is_known}
 use Rattle.roam_core.specs.Decided.{RoamDecision}
 use Rattle.roam_core.specs.Desk.{Desk, IsStateOf}
 use Rattle.roam_core.specs.Lines.{line_decided, reaction, state_after}
 
 -- ---- an entry fits
 
+-- each sender that has a row is one of the state's
+abbrev pub KnowsSenders : Config → Machine → Type 0
+KnowsSenders c m = (sender : Sender) → is_known c sender ≡ true → IsTrue (is_sender sender m)
+
 -- a state of these tables that has an entry, and a moment from its last one to 2^53
 pub record CanEnter (c : Config) (m : Machine) (now : ℕ) : Type 0 where
   pub state : IsStateOf c m
+  pub senders : KnowsSenders c m
   pub begun : IsTrue (nat_lt 0 m.entries)
   pub time : IsTrue (is_time now m)
 

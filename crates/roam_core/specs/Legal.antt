@@ -7,7 +7,9 @@ use Rattle.entries.specs.declared.entry.Entry.{Entry}
 use Rattle.entries.specs.declared.entry.Event.{Event}
 use Rattle.entries.specs.declared.entry.Event.TheVariants as event
 use Rattle.entry_codec.specs.Fits.{fits, is_time}
+use Rattle.entry_codec.specs.Empty.{empty}
 use Rattle.roam_core.specs.Desk.{Desk, desk_after, empty_desk}
+use Rattle.roam_core.specs.Entering.{KnowsSenders}
 use Rattle.roam_core.specs.Lines.{line_decided, reaction}
 
 -- the text of the tables comes first, and it has these tables
@@ -50,5 +52,5 @@ desk_at c history = desk_from (empty_desk c) history
 
 -- a legal history that has its first entry goes on legally by the entry of each line, at a moment from its last one to 2^53
 abbrev pub LinesGoOn : Type 0
-LinesGoOn = (c : Config) (keys : List RootKeys) (history : List Entry) (body : List ℕ) (now : ℕ) (e : Entry) → IsLegal c keys history → 0 < length history
+LinesGoOn = (c : Config) (keys : List RootKeys) (history : List Entry) (body : List ℕ) (now : ℕ) (e : Entry) → KnowsSenders c (empty c) → IsLegal c keys history → 0 < length history
     → IsTrue (is_time now (desk_at c history).now) → (reaction c keys (desk_at c history) body now).entry ≡ Some e → IsLegal c keys (history ++ e ∷ [])

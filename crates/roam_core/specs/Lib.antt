@@ -1,6 +1,7 @@
 pub mod Order
 pub mod Desk
 pub mod Decided
+pub mod Texts
 pub mod Lines
 pub mod Legal
 pub mod Entering

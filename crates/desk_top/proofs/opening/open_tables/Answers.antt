@@ -1,9 +1,5 @@
-use Rattle.desk_top.proofs.Texts.{tables_read}
 use Rattle.desk_top.proofs.OpeningLemmas.{refusal_told}
 use Rattle.desk_top.proofs.opening.open_tables.Goals as goal
-
-pub returns-in-Ok-clause-tables : goal.returns-in-Ok-clause-tables
-returns-in-Ok-clause-tables g c = tables_read _ _ _ c.in_ok-text.ensures.text (rw c.deref.ensures.value at c.in-Ok.ensures)
 
 pub returns-in-Err-Refused-clause-unopened : goal.returns-in-Err-Refused-clause-unopened
 returns-in-Err-Refused-clause-unopened g c =

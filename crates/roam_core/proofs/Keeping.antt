@@ -1,0 +1,74 @@
+-- What makes no entry changes nothing.
+use Rattle.std.proofs.Common.{◌≡◌, ℕ, List, Bool, true, false, Option, Some, None, Result, Ok, Err, refl}
+use Rattle.wire_ids.specs.Decisions.{entry_of}
+use Rattle.wire_ids.specs.declared.decision.Decision.TheVariants as decision
+use Rattle.wire_ids.specs.declared.keys.RootKeys.{RootKeys}
+use Rattle.key_vault.specs.Table.{app_at, nwk_at}
+use Rattle.agreements.specs.Walk.{Config}
+use Rattle.backend_json.specs.Messages.{message_of}
+use Rattle.backend_json.specs.declared.head.Head.{Head}
+use Rattle.backend_json.specs.declared.message.Bad.{Bad}
+use Rattle.backend_json.specs.declared.message.Message.{Message}
+use Rattle.backend_json.specs.declared.request.JoinRequest.{JoinRequest}
+use Rattle.backend_json.specs.declared.request.Request.{Request}
+use Rattle.entry_codec.specs.Kept.{kept_answer}
+use Rattle.entry_codec.specs.LookUps.{is_asked}
+use Rattle.entry_codec.specs.Machine.{Machine, lapse}
+use Rattle.join_frames.specs.declared.join_up.JoinUp.{JoinUp}
+use Rattle.js_core.specs.Found.{Found}
+use Rattle.js_core.specs.Replies.{JsDecision, accepted, js_decided}
+use Rattle.js_core.specs.declared.activation.Activation.{Activation}
+use Rattle.js_core.specs.declared.activation.Activation.TheVariants as by
+use Rattle.js_core.proofs.Cases.{by_cases}
+use Rattle.roam_core.specs.Decided.{decided, judged_at, with_entry}
+use Rattle.roam_core.specs.Desk.{Desk, desk_with}
+use Rattle.roam_core.specs.Entering.{RepliesKeep, enters, gives_session}
+use Rattle.roam_core.specs.Lines.{decided_of, line_decided, reaction}
+use Rattle.roam_core.proofs.Outcomes.{judged_is}
+
+-- an answer that comes with a change gives a session
+abbrev GivesSession : JsDecision → Type 0
+GivesSession (decision.Repeat text) = Unit {0}
+GivesSession (decision.Reply answer) = Unit {0}
+GivesSession (decision.Accept answer change) = gives_session answer ≡ true
+GivesSession (decision.AskPeer peer question change) = Unit {0}
+
+gives-accepted : (c : Config) (nwk app : ℕ → List ℕ) (activation : Activation) (head : Head) (request : JoinRequest) (up : JoinUp) (f : Found) → GivesSession (accepted c nwk app activation head request up f)
+gives-accepted c nwk app by.Join head request up f = refl
+gives-accepted c nwk app by.Rejoin head request up f = refl
+
+gives-decided : (c : Config) (nwk app : ℕ → List ℕ) (m : Machine) (head : Head) (request : Request) → GivesSession (js_decided c nwk app m head request)
+gives-decided c nwk app m head request = by_cases c nwk app app m head (λ left right. GivesSession left) (record {
+  refusal = λ why. tt;
+  join = λ activation join up f is. gives-accepted c nwk app activation head join up f;
+  app_s_key = λ asked f seed is. tt;
+  home_ns = λ f. tt;
+}) request
+
+kept_by_entry : (head : Head) (body : List ℕ) (now : ℕ) (s : Desk) (d : JsDecision) → GivesSession d → enters (with_entry head body now d) ≡ false → desk_with s (entry_of (with_entry head body now d)) ≡ s
+kept_by_entry head body now s (decision.Repeat text) g e = refl
+kept_by_entry head body now s (decision.Reply answer) g e = refl
+kept_by_entry head body now s (decision.Accept answer change) g e = cc
+kept_by_entry head body now s (decision.AskPeer peer question change) g e = elim question [ ]
+
+keeps : (c : Config) (keys : List RootKeys) (s : Desk) (body : List ℕ) (now : ℕ) (r : Result Message Bad) → enters (decided_of c (nwk_at keys) (app_at keys) s body now r) ≡ false → desk_with s (entry_of (decided_of c (nwk_at keys) (app_at keys) s body now r)) ≡ s
+unfolding decided
+keeps c keys s body now (Err fault) e = refl
+keeps c keys s body now (Ok message) e =
+    let head = message.head in
+    let m = lapse now s.now in
+    let nwk = nwk_at keys in
+    let app = app_at keys in
+    let kept = kept_answer head.sender body s.kept in
+    let asked = is_asked body m in
+    kept_by_entry head body now s (judged_at c nwk app m head message.request kept asked)
+    (judged_is c nwk app m head message.request GivesSession kept asked (record {
+      refusal = λ why. tt;
+      repeat = λ text is. tt;
+      decides = λ known. gives-decided c nwk app m head message.request;
+    }))
+    e
+
+pub replies_keep : RepliesKeep
+unfolding reaction line_decided
+replies_keep c keys s body now e = keeps c keys s body now (message_of body) e

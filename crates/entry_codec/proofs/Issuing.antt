@@ -78,13 +78,15 @@ found-empty c places = λ i d there. found_at c.devices i d places there
     name_at (r ∷ rows) zero d there = (r, refl, cc)
     name_at (r ∷ rows) (suc i) d there = name_at rows i d there
 
-    found_at : (rows : List DeviceRow) (i : ℕ) (d : Device) → HasPlaces rows → slice_get (map (new_device c.desk.net_id) rows) i ≡ Some d → position (is_number d.dev_eui.0) (names (map (new_device c.desk.net_id) rows)) ≡ Some i
-    found_at rows i d h there =
-        let was = name_at rows i d there in
-        let within : i < length rows = slice_get_within rows i was.0 was.1 in
-        let own : get_or rows i was.0 ≡ was.0 = get_or_from_slice_get rows i was.0 was.0 was.1 in
-        let place : position (λ (r : DeviceRow). r.dev_eui.0 == d.dev_eui.0) rows ≡ Some i = subst (λ (k : ℕ). position (λ (r : DeviceRow). r.dev_eui.0 == k) rows ≡ Some i) (ap (λ (r : DeviceRow). r.dev_eui.0) {y = was.0} own ∙ was.2) (h i was.0 within) in
+    named_at : (rows : List DeviceRow) (i : ℕ) (d : Device) (r : DeviceRow) → HasPlaces rows → slice_get rows i ≡ Some r → r.dev_eui.0 ≡ d.dev_eui.0 → position (is_number d.dev_eui.0) (names (map (new_device c.desk.net_id) rows)) ≡ Some i
+    named_at rows i d r h at name =
+        let within : i < length rows = slice_get_within rows i r at in
+        let own : get_or rows i r ≡ r = get_or_from_slice_get rows i r r at in
+        let place : position (λ (r : DeviceRow). r.dev_eui.0 == d.dev_eui.0) rows ≡ Some i = subst (λ (k : ℕ). position (λ (r : DeviceRow). r.dev_eui.0 == k) rows ≡ Some i) (ap (λ (r : DeviceRow). r.dev_eui.0) own ∙ name) (h i r within) in
         ap (λ (ns : List ℕ). position (is_number d.dev_eui.0) ns) (names-new c.desk.net_id rows) ∙ position-map (is_number d.dev_eui.0) row_number rows ∙ place
+
+    found_at : (rows : List DeviceRow) (i : ℕ) (d : Device) → HasPlaces rows → slice_get (map (new_device c.desk.net_id) rows) i ≡ Some d → position (is_number d.dev_eui.0) (names (map (new_device c.desk.net_id) rows)) ≡ Some i
+    found_at rows i d h there = let was = name_at rows i d there in named_at rows i d was.0 h was.1 was.2
 
 -- ---- the mark of a DevEUI
 

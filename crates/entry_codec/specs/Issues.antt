@@ -58,7 +58,7 @@ pub record IssuesOnce (number : Change → Option ℕ) (m : Machine) (es : List 
 
 -- ---- JoinNonces
 
--- the JoinNonce that a change gives out
+-- the JoinNonce that a change gives out (LoRaWAN 1.1, 6.2.3)
 abbrev pub given_join_nonce : Change → Option ℕ
 given_join_nonce (change.Join j) = Some j.join_nonce
 given_join_nonce (change.Rejoin j) = Some j.join_nonce
@@ -71,7 +71,7 @@ JoinNoncesOnce = (c : Config) (es : List Entry) → HasPlaces c.devices → AllF
 
 -- ---- DevNonces
 
--- the DevNonce of the join that a change accepts, also where it lends the device
+-- the DevNonce of the join that a change accepts (LoRaWAN 1.1, 6.2.2), also where it lends the device
 abbrev pub accepted_dev_nonce : Change → Option ℕ
 accepted_dev_nonce (change.Join j) = Some j.counter
 accepted_dev_nonce (change.Lent l) = if is_some l.used then None else Some l.counter

@@ -15,8 +15,8 @@ pub fn join_nonces_once()
     ensures { JoinNoncesOnce }
 {}
 
-/// No DevNonce of a device is accepted twice, over every list of entries that fit: each is above
-/// those before it, a lending's too.
+/// No DevNonce of a device is accepted twice, by a join or by a lending that answers a join, over
+/// every list of entries that fit.
 pub fn dev_nonces_once()
     ensures { DevNoncesOnce }
 {}

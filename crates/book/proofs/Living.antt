@@ -8,7 +8,7 @@ use Rattle.entries.specs.Entries.{decode_of}
 use Rattle.entries.specs.declared.entry.Entry.{Entry}
 use Rattle.roam_core.specs.Desk.{desk_after, empty_desk}
 use Rattle.roam_core.specs.Legal.{IsLegal, MayFollow}
-use Rattle.roam_core.proofs.DevNonces.{histories_issue_once}
+use Rattle.roam_core.proofs.Issuing.{histories_issue_once}
 use Rattle.book.specs.Histories.{IsLegalFrom, entries_of, in_front}
 use Rattle.book.specs.Lives.{AreLives, IsLegalHistory, IsLife, Life, Lives, left_by}
 use Rattle.book.specs.Receipts.{IsGood, IsGoodFor, Receipt}

@@ -12,6 +12,9 @@ const TWO: [u8; 30] = *b"LWDESK-JOURNAL-1\x01\0\0\0\x02ab\x01\0\0\0\x01c\0";
 
 const FOREIGN: [u8; 100] = [0x58; 100];
 
+// More records than a journal keeps the places of.
+const MANY: u64 = 2100;
+
 fn is_send<T: Send>() {}
 
 // Whether the records of a journal are the first of those that stand in these bytes.
@@ -46,6 +49,28 @@ fn opened(alloc: Global, disk: &[u8], whole: &[u8; 30]) -> Result<Option<u64>, J
         Err(held) => Err(held.fault),
         Ok(mut journal) => Ok(shows(alloc, &mut journal, whole).then_some(journal.count())),
     }
+}
+
+// Reads the records of a long journal in order and then backwards. Whether each is the one byte
+// that was written for its number.
+fn reads_both_ways<D: Disk>(alloc: Global, journal: &mut Journal<D>) -> bool
+    requires { Holds D.seen journal.old }
+{
+    let mut out = Vec::new(alloc);
+    'records: for i in 0..2 * MANY {
+        let k = if i < MANY { i } else { 2 * MANY - 1 - i };
+        if k >= journal.count() || journal.read(k, &mut out).is_err() {
+            return false;
+        }
+        if out.as_slice() != [byte_of(k)].as_slice() {
+            return false;
+        }
+    }
+    journal.count() == MANY
+}
+
+fn byte_of(k: u64) -> u8 {
+    (k % 251) as u8
 }
 
 // Appends, and after a fault reads again until the disk answers. Whether the record counts.
@@ -144,6 +169,23 @@ fn each_call_fails(rt: HostRuntime) -> Result<(), Fail> {
             assert_eq!(rt; opened(alloc, left.content(), &TWO), Ok(Some(want)));
         }
     }
+    Ok(())
+}
+
+#[test]
+fn many_records(rt: HostRuntime) -> Result<(), Fail> {
+    let alloc = rt.alloc();
+    let mut bytes = Vec::new(alloc);
+    bytes.extend_from_slice(b"LWDESK-JOURNAL-1")?;
+    for k in 0..MANY {
+        bytes.extend_from_slice(&[1, 0, 0, 0, 1, byte_of(k)])?;
+    }
+    bytes.extend_from_slice(&[0])?;
+    let disk = MemoryDisk::new(alloc, &bytes, bytes.len(), 20_000, Vec::new(alloc))?;
+    let Ok(mut journal) = Journal::open(alloc, disk) else {
+        return Err(Fail::new("no journal"));
+    };
+    assert!(rt; reads_both_ways(alloc, &mut journal));
     Ok(())
 }
 

@@ -1,5 +1,5 @@
 -- Each JoinNonce of a device is above those before it.
-use Rattle.std.proofs.Common.{◌≡◌, ◌≢◌, ℕ, zero, suc, ◌+◌, ◌<◌, ◌≤◌, Bool, true, false, List, [], ◌∷◌, length, map, get_or, AllPairs, Option, Some, None, option_map, refl, sym, ap, subst, ◌∙◌, arith, le_refl, le_of_eq}
+use Rattle.std.proofs.Common.{◌≡◌, ℕ, zero, suc, ◌+◌, ◌<◌, ◌≤◌, Bool, true, false, List, [], ◌∷◌, length, map, get_or, Option, Some, None, option_map, refl, sym, ap, subst, ◌∙◌, arith}
 use Rattle.std.specs.Prelude.{IsTrue, ◌==◌, ◌&&◌, nat_lt, position, slice_get}
 use borrow.Author.Tests.{ltb-true}
 use Rattle.std.proofs.lemmas.Option.{get_or_from_slice_get, slice_get_within, some_pair_parts}
@@ -29,9 +29,9 @@ use Rattle.entry_codec.specs.Devices.{called_back, heard, in_slots, joined, kept
 use Rattle.entry_codec.specs.Empty.{empty, new_device}
 use Rattle.entry_codec.specs.Fits.{fits, fits_change, fits_event, fits_join, fits_lending, fits_own, fits_rejoin, fits_step, fits_used, is_above}
 use Rattle.entry_codec.specs.Index.{device_number, is_number, names, row_number}
-use Rattle.entry_codec.specs.Issues.{IsAbove, IssuesOnce, JoinNoncesOnce, change_nonce, event_nonce, issued_nonce, issues, join_nonces, nonce_of}
+use Rattle.entry_codec.specs.Issues.{JoinNoncesOnce, change_nonce, event_nonce, issued_nonce, issues, join_nonces}
 use Rattle.entry_codec.specs.LookUps.{is_network, is_sender}
-use Rattle.entry_codec.specs.Machine.{Machine, after, asked, closed, granted_by, holder_of, is_dev, item_of, lapse, lent_to, on_change, on_device, on_dropped, on_effect, on_event, on_place, on_slots, place_of, ready, wake, wakes, with_rejoin}
+use Rattle.entry_codec.specs.Machine.{Machine, after, asked, closed, granted_by, holder_of, item_of, lapse, lent_to, on_change, on_device, on_dropped, on_effect, on_event, on_place, on_slots, place_of, ready, wake, wakes, with_rejoin}
 use Rattle.entry_codec.specs.Replay.{AllFit}
 use Rattle.entry_codec.specs.declared.device.Device.{Device}
 use Rattle.entry_codec.specs.declared.device.LentTo.{LentTo}

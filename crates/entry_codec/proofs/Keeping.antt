@@ -1,5 +1,5 @@
 -- At most 64 answers are kept of a sender.
-use Rattle.std.proofs.Common.{◌≡◌, ℕ, ◌≤◌, List, ◌∷◌, length, Option, Some, None, arith}
+use Rattle.std.proofs.Common.{List, ◌∷◌, Option, Some, None, arith}
 use Rattle.std.specs.Prelude.{position}
 use Rattle.std.proofs.lemmas.List.{length-take}
 use Rattle.wire_ids.proofs.Lists.{all_changed_there}

@@ -1,15 +1,13 @@
 -- Nothing that ends later is gone, and no event makes anything end before its own end.
-use Rattle.std.proofs.Common.{◌≡◌, ℕ, zero, suc, ◌+◌, ◌<◌, ◌≤◌, Bool, true, false, cond, List, [], ◌∷◌, ◌++◌, length, map, take, get_or, add-one, Option, Some, None, refl, sym, ap, subst, ◌∙◌, arith}
+use Rattle.std.proofs.Common.{◌≡◌, ℕ, zero, suc, ◌+◌, ◌<◌, ◌≤◌, Bool, true, false, List, [], ◌∷◌, ◌++◌, length, map, take, get_or, add-one, Option, Some, None, refl, sym, subst, arith}
 use Rattle.std.specs.Prelude.{nat_lt, position}
 use Rattle.std.specs.List.{AllByRecursion, filter}
-use Rattle.wire_ids.specs.Lists.{changed, changed_there}
 use Rattle.wire_ids.specs.declared.eui.Eui.{Eui}
 use Rattle.wire_ids.specs.declared.keys.Seed.{Seed}
 use Rattle.wire_ids.specs.declared.party.Sender.{Sender}
 use Rattle.wire_ids.proofs.Lists.{all_changed, all_changed_there, all_more}
 use Rattle.contexts.specs.Slots.{activated, on_active}
 use Rattle.contexts.specs.declared.slots.Slots.{Slots}
-use Rattle.entries.specs.declared.ask.AskOutcome.{AskOutcome}
 use Rattle.entries.specs.declared.ask.Effect.{Effect}
 use Rattle.entries.specs.declared.ask.Effect.TheVariants as effect
 use Rattle.entries.specs.declared.ask.HeldCount.{HeldCount}

@@ -1,5 +1,5 @@
 -- Where each event issues a number that is not below its key's mark, and puts the mark above it, no number is issued twice under one key.
-use Rattle.std.proofs.Common.{◌≡◌, ◌≢◌, ℕ, ◌<◌, ◌≤◌, List, [], ◌∷◌, length, suc, Option, Some, None, All, AllPairs, filter_map, refl, ap, subst, get_or, arith, lt_of_lt_of_le}
+use Rattle.std.proofs.Common.{◌≡◌, ◌≢◌, ℕ, ◌<◌, ◌≤◌, List, [], ◌∷◌, Option, Some, None, All, AllPairs, refl, ap, subst, get_or, arith, lt_of_lt_of_le}
 use Rattle.std.proofs.lemmas.List.Elements.{All-nil, All-cons}
 use Rattle.std.proofs.lemmas.List.Kept.{AllPairs-cons}
 use Rattle.entry_codec.specs.Issues.{IsAbove, issues, one_more}

@@ -1,6 +1,6 @@
 -- Devices by their names, which no step changes.
 use Rattle.std.proofs.Common.{◌≡◌, ℕ, zero, suc, Bool, true, false, cond, List, [], ◌∷◌, length, map, drop, get_or, add-one, ◌+◌, ◌-◌, ◌<◌, eqb, subst, Option, Some, None, option_map, refl, sym, ap, ◌∙◌, arith}
-use Rattle.std.specs.Prelude.{◌==◌, nat_lt, not, position, slice_get}
+use Rattle.std.specs.Prelude.{nat_lt, not, position}
 use Rattle.std.specs.BTreeMap.{BTreeMap, get}
 use Rattle.std.specs.List.{position_or_len, prefix_len}
 use Rattle.std.specs.Ordering.{nat_cmp}
@@ -10,8 +10,7 @@ use Rattle.wire_ids.specs.Lists.{changed}
 use Rattle.wire_ids.specs.declared.eui.Eui.{Eui}
 use Rattle.wire_ids.proofs.Lists.{changed-cons}
 use Rattle.entry_codec.specs.Index.{IsIndex, device_number, is_number, names, row_number}
-use Rattle.entry_codec.specs.Machine.{Machine, is_dev, place_of}
-use Rattle.entry_codec.specs.declared.device.Device.{Device}
+use Rattle.entry_codec.specs.Machine.{Machine, place_of}
 use Rattle.entry_codec.specs.declared.index.Index.{Index}
 
 module _ {X Y : Type 0} where

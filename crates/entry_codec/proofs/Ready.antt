@@ -1,11 +1,10 @@
 -- What is asked of the state at which an entry is looked at, asked of the state before.
-use Rattle.std.proofs.Common.{◌≡◌, ℕ, zero, suc, ◌+◌, ◌<◌, ◌≤◌, Bool, true, false, cond, eqb, List, [], ◌∷◌, length, map, Option, Some, None, option_map, refl, sym, ap, subst, ◌∙◌, arith}
-use Rattle.std.specs.Prelude.{IsTrue, ◌==◌, ◌&&◌, ◌||◌, find, is_some, nat_lt, not, position, slice_get, sum_by}
-use Rattle.std.specs.List.{filter, list_any, position_or_len}
+use Rattle.std.proofs.Common.{◌≡◌, ℕ, ◌+◌, ◌≤◌, Bool, true, false, cond, List, length, map, Option, Some, None, option_map, refl, sym, ap, subst, ◌∙◌, arith}
+use Rattle.std.specs.Prelude.{◌&&◌, ◌||◌, find, is_some, nat_lt, not, position, slice_get, sum_by}
+use Rattle.std.specs.List.{list_any}
 use Rattle.std.proofs.lemmas.List.{length-map}
 use Rattle.std.proofs.lemmas.Option.{slice_get-map}
-use Rattle.std.proofs.lemmas.List.Sums.{sum_by-cons}
-use Rattle.wire_ids.specs.Lists.{at_place, changed, changed_first, changed_there, holds_of}
+use Rattle.wire_ids.specs.Lists.{at_place, changed, changed_there, holds_of}
 use Rattle.wire_ids.specs.declared.address.DevAddr.{DevAddr}
 use Rattle.wire_ids.specs.declared.eui.Eui.{Eui}
 use Rattle.wire_ids.specs.declared.party.PeerId.{PeerId}
@@ -16,7 +15,6 @@ use Rattle.entry_codec.specs.declared.device.KeptSeed.{KeptSeed}
 use Rattle.entry_codec.specs.declared.parties.OpenAsk.{OpenAsk}
 use Rattle.entries.specs.declared.ask.NewAsk.{NewAsk}
 use Rattle.entry_codec.specs.declared.device.LentTo.{LentTo}
-use Rattle.wire_ids.proofs.Lists.{changed-cons}
 use Rattle.contexts.specs.Slots.{activated, activated_by, woken}
 use Rattle.contexts.specs.declared.context.Context.{Context}
 use Rattle.contexts.specs.declared.slots.Slots.{Slots}
@@ -34,7 +32,7 @@ use Rattle.entries.specs.declared.used_seed.UsedSeed.TheVariants.{Rejoin0, Rejoi
 use Rattle.entry_codec.specs.Devices.{in_slots, lapsed, still_lent, uses_pending}
 use Rattle.entry_codec.specs.Fits.{can_queue, closes_open, counts_above, counts_before, is_counted_below, is_lent_at, is_lent_by, is_marked, is_lent_to, may_ask, fits_count, fits_join, fits_lending, fits_own, fits_rejoin, fits_step, fits_used, is_above, is_above_count}
 use Rattle.entry_codec.specs.LookUps.{asks_for, at_home, is_same_sender, is_sender, knows_peer, device_has, device_named, device_slots, is_taken, leaves, leaves_slots, lives, slot_has, slots_have, slots_of, visitor_has, visitor_of, visitor_slots}
-use Rattle.entry_codec.specs.Machine.{Machine, change_wakes, has_number, home_or_visitor, holder_of, in_visitor, is_dev, is_home, is_visitor, lapse, on_device, on_slots, on_visitor, place_of, visitor_named, visitor_waking, visits, wake, wakes, without}
+use Rattle.entry_codec.specs.Machine.{Machine, change_wakes, has_number, home_or_visitor, holder_of, in_visitor, is_home, is_visitor, lapse, place_of, visitor_named, visitor_waking, wake, wakes, without}
 use Rattle.entry_codec.specs.Sound.{IsSound, ask_uses, count_if, device_uses, slots_use, uses, visitor_uses}
 use Rattle.entry_codec.specs.declared.device.Device.{Device}
 use Rattle.entry_codec.specs.declared.parties.Holder.{Holder}
@@ -43,7 +41,7 @@ use Rattle.entry_codec.specs.declared.parties.Visitor.{Visitor}
 use Rattle.std.proofs.lemmas.List.Folds.{find_at}
 use Rattle.entry_codec.proofs.Ordered.{place_found}
 use Rattle.entry_codec.proofs.Places.{find-place}
-use Rattle.entry_codec.proofs.Sound.{home_lapse, place-mapped, position-mapped, prefix_len-changed}
+use Rattle.entry_codec.proofs.Sound.{place-mapped, position-mapped, prefix_len-changed}
 use Rattle.entry_codec.proofs.SoundDevices.{same-lapsed}
 use Rattle.entry_codec.proofs.Sums.{any_counted, element-changed, any_map, holds_of-changed, holds_of-map, holds_same, sum_by-change}
 

@@ -1,12 +1,11 @@
 -- There is room for what an entry that fits adds.
-use Rattle.std.proofs.Common.{◌≡◌, ℕ, zero, suc, ◌+◌, ◌<◌, ◌≤◌, Bool, true, false, cond, List, [], ◌∷◌, length, map, Option, Some, None, refl, sym, ap, subst, ◌∙◌, arith}
-use Rattle.std.specs.Prelude.{IsTrue, ◌&&◌, ◌||◌, filter_map, nat_eq, nat_le, nat_lt, slice_get}
-use Rattle.std.specs.List.{AllByRecursion, IsDistinct, cons_option, list_any}
+use Rattle.std.proofs.Common.{◌≡◌, ℕ, zero, suc, ◌+◌, ◌<◌, ◌≤◌, Bool, true, false, List, [], ◌∷◌, length, map, Option, Some, None, refl, sym, subst, arith}
+use Rattle.std.specs.Prelude.{IsTrue, ◌&&◌, ◌||◌, nat_eq, nat_le, nat_lt, slice_get}
+use Rattle.std.specs.List.{AllByRecursion, IsDistinct, list_any}
 use Rattle.std.specs.Set.{is_member}
 use Rattle.std.proofs.lemmas.Cmp.{nat_eq_equiv}
 use Rattle.std.proofs.lemmas.Map.Made.{length-le_from_is_member}
 use Rattle.wire_ids.specs.Lists.{at_place, holds_of}
-use Rattle.wire_ids.specs.declared.eui.Eui.{Eui}
 use Rattle.wire_ids.specs.declared.party.Sender.{Sender}
 use Rattle.wire_ids.specs.declared.party.Sender.TheVariants.{Network, Party}
 use Rattle.entries.specs.declared.ask.AskOutcome.{AskOutcome}
@@ -14,15 +13,14 @@ use Rattle.entries.specs.declared.ask.Effect.{Effect}
 use Rattle.entries.specs.declared.ask.Effect.TheVariants as effect
 use Rattle.entries.specs.declared.change.Change.{Change}
 use Rattle.entries.specs.declared.change.Change.TheVariants as change
-use Rattle.entries.specs.declared.change.PassiveUplink.{PassiveUplink}
 use Rattle.entries.specs.declared.entry.Event.{Event}
 use Rattle.entries.specs.declared.entry.Event.TheVariants as event
 use Rattle.entry_codec.specs.Devices.{can_grant, net_of, put_granted}
 use Rattle.entry_codec.specs.Fits.{can_hold, fits_change, fits_effect, fits_event, fits_told, fits_up}
-use Rattle.entry_codec.specs.LookUps.{asks_for, at_home, device_named, is_network, is_same_sender, is_sender}
-use Rattle.entry_codec.specs.Machine.{Machine, granted_by, hold, is_home, open_ask, place_of}
+use Rattle.entry_codec.specs.LookUps.{at_home, is_network, is_same_sender, is_sender}
+use Rattle.entry_codec.specs.Machine.{Machine, granted_by, is_home, open_ask, place_of}
 use Rattle.entry_codec.specs.Ordered.{IsRisingBy, IsRisingFrom}
-use Rattle.entry_codec.specs.Sound.{HasRow, IsSound, IsSoundDevice, network_of, networks}
+use Rattle.entry_codec.specs.Sound.{HasRow, IsSound, IsSoundDevice, networks}
 use Rattle.entry_codec.specs.State.{CanGrant, HasRoomAt, HasRoomFor}
 use Rattle.entry_codec.specs.declared.device.Device.{Device}
 use Rattle.entry_codec.specs.declared.device.Granted.{Granted}

@@ -1,21 +1,18 @@
 -- An entry that fits keeps what holds of every state.
-use Rattle.std.proofs.Common.{◌≡◌, ◌≢◌, ℕ, zero, suc, ◌+◌, ◌<◌, ◌≤◌, Bool, true, false, cond, eqb, List, [], ◌∷◌, ◌++◌, length, map, Option, Some, None, option_map, refl, sym, ap, subst, ◌∙◌, arith}
-use Rattle.std.specs.Prelude.{IsTrue, ◌==◌, ◌&&◌, ◌||◌, find, is_some, nat_le, nat_lt, not, position, slice_get, sum_by}
+use Rattle.std.proofs.Common.{◌≡◌, ℕ, zero, suc, ◌+◌, ◌<◌, ◌≤◌, Bool, true, false, cond, eqb, List, [], ◌∷◌, ◌++◌, length, map, Option, Some, None, refl, sym, ap, subst, ◌∙◌, arith}
+use Rattle.std.specs.Prelude.{IsTrue, ◌==◌, ◌&&◌, ◌||◌, find, nat_le, nat_lt, not, position, slice_get, sum_by}
 use Rattle.std.specs.List.{AllByRecursion, filter, list_any, position_or_len, prefix_len}
-use borrow.Author.Tests.{ltb-true, leb-true}
+use borrow.Author.Tests.{ltb-true}
 use Rattle.std.proofs.lemmas.Bool.{eqb-true, not-true}
 use Rattle.std.proofs.lemmas.List.{length-append, length-map}
-use Rattle.std.proofs.lemmas.List.Sums.{sum_by_push, sum_by-cons}
-use Rattle.wire_ids.specs.Lists.{at_place, changed, changed_first, changed_there, holds_of}
+use Rattle.std.proofs.lemmas.List.Sums.{sum_by_push}
+use Rattle.wire_ids.specs.Lists.{at_place, changed, changed_there, holds_of}
 use Rattle.wire_ids.specs.declared.address.DevAddr.{DevAddr}
 use Rattle.wire_ids.specs.declared.eui.Eui.{Eui}
 use Rattle.wire_ids.specs.declared.party.Sender.{Sender}
-use Rattle.wire_ids.specs.declared.party.Sender.TheVariants.{Network}
 use Rattle.wire_ids.proofs.Lists.{all_changed, all_changed_there, all_map, all_more, changed-cons, length-changed, length-filter_le, none_counted, or_left, or_right, sum_by-changed, sum_by-filter_le, sum_by-map_le}
-use Rattle.contexts.specs.Contexts.{fresh_of}
-use Rattle.contexts.specs.Slots.{activated, on_active, offered}
+use Rattle.contexts.specs.Slots.{activated, on_active}
 use Rattle.contexts.specs.Sound.{IsSoundContext}
-use Rattle.contexts.specs.declared.context.Context.{Context}
 use Rattle.contexts.specs.declared.context.Origin.{Origin}
 use Rattle.contexts.specs.declared.context.Origin.TheVariants.{Given, Seeded}
 use Rattle.contexts.specs.declared.slots.Slots.{Slots}
@@ -30,7 +27,6 @@ use Rattle.entries.specs.declared.ask.RejoinCount.{RejoinCount}
 use Rattle.entries.specs.declared.change.Change.{Change}
 use Rattle.entries.specs.declared.change.Change.TheVariants as change
 use Rattle.entries.specs.declared.change.OwnContext.{OwnContext}
-use Rattle.entries.specs.declared.change.PassiveUplink.{PassiveUplink}
 use Rattle.entries.specs.declared.change.RoamingKind.{RoamingKind}
 use Rattle.entries.specs.declared.change.RoamingKind.TheVariants as kind
 use Rattle.entries.specs.declared.change.Uplink.{Uplink}
@@ -38,9 +34,9 @@ use Rattle.entries.specs.declared.entry.Entry.{Entry}
 use Rattle.entries.specs.declared.entry.Event.{Event}
 use Rattle.entries.specs.declared.entry.Event.TheVariants as event
 use Rattle.entry_codec.specs.Devices.{called_back, heard, in_slots, joined, lapsed, lent_out, marked, queued, rejoined, with_grant}
-use Rattle.entry_codec.specs.Fits.{can_hold, can_move, can_queue, can_visit, closes_open, fits, fits_asked, fits_change, fits_count, fits_dropped, fits_effect, fits_event, fits_join, fits_lending, fits_own, fits_passive, fits_rejoin, fits_step, fits_told, fits_up, fits_used, has_room_to_hold, is_above, is_free, is_later, is_marked, is_time, may_ask, names_there}
+use Rattle.entry_codec.specs.Fits.{can_hold, can_queue, can_visit, closes_open, fits, fits_asked, fits_change, fits_count, fits_effect, fits_event, fits_join, fits_lending, fits_own, fits_rejoin, fits_step, fits_told, fits_up, fits_used, has_room_to_hold, is_above, is_free, is_marked, may_ask}
 use Rattle.entry_codec.specs.LookUps.{asks_for, at_home, device_has, has_visitor, is_addr, is_network, is_sender, is_taken, is_taken_beside, knows_peer, lives, slot_has, slots_have, visitor_has}
-use Rattle.entry_codec.specs.Machine.{Machine, after, ask_number, ask_of, asked, change_wakes, closed, entered, given_context, granted_by, heard_in, held_number, held_session, hold, holder_of, in_visitor, is_dev, is_held, is_held_for, is_home, is_open, is_other, is_session, is_visitor, item_of, lapse, lent_to, move_count, new_visitor, on_change, on_device, on_dropped, on_effect, on_event, on_passive, on_place, on_slots, on_told, on_up, on_visitor, open_ask, place_of, ready, renewed, visit, visitor_number, visits, wake, wakes, with_count, with_rejoin, without}
+use Rattle.entry_codec.specs.Machine.{Machine, after, ask_number, ask_of, asked, closed, given_context, granted_by, held_number, held_session, hold, holder_of, in_visitor, is_dev, is_held, is_home, is_open, is_other, is_session, is_visitor, item_of, lapse, lent_to, move_count, new_visitor, on_change, on_device, on_dropped, on_effect, on_event, on_place, on_slots, on_told, on_visitor, open_ask, place_of, ready, renewed, visit, visitor_number, visits, wake, wakes, with_count, with_rejoin, without}
 use Rattle.entry_codec.specs.Ordered.{IsRisingBy, put_in}
 use Rattle.entry_codec.specs.Ordered as ordered
 use Rattle.entry_codec.specs.Sound.{AreSlots, HasRow, IsGivenBefore, IsNumberedBelow, IsSeededTo, IsSound, IsSoundDevice, IsSoundTo, IsSoundVisitor, ask_uses, count_if, device_uses, has_context, slots_use, uses, visitor_uses}

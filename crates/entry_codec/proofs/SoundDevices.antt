@@ -1,7 +1,7 @@
 -- Each step of a device keeps what holds of every device, and gives no address but the one that it names.
-use Rattle.std.proofs.Common.{◌≡◌, ◌≢◌, ℕ, ◌+◌, ◌<◌, ◌≤◌, ◌^◌, Bool, true, false, List, [], ◌∷◌, ◌++◌, length, Option, Some, None, option_map, refl, sym, ap, subst, cond, ◌∙◌, arith}
+use Rattle.std.proofs.Common.{◌≡◌, ℕ, ◌+◌, ◌<◌, ◌≤◌, ◌^◌, Bool, true, false, List, [], ◌∷◌, length, Option, Some, None, option_map, refl, sym, ap, subst, cond, ◌∙◌, arith}
 use Rattle.std.specs.Prelude.{IsTrue, ◌==◌, nat_le, nat_lt, not, is_some, ◌||◌, ◌&&◌}
-use Rattle.std.specs.List.{AllByRecursion, filter, list_any}
+use Rattle.std.specs.List.{AllByRecursion}
 use borrow.Author.Tests.{ltb-true, leb-true}
 use Rattle.std.proofs.lemmas.List.{length-take}
 use Rattle.wire_ids.specs.Lists.{holds_of}
@@ -10,10 +10,10 @@ use Rattle.wire_ids.specs.declared.keys.Seed.{Seed}
 use Rattle.wire_ids.specs.declared.party.Sender.{Sender}
 use Rattle.wire_ids.proofs.Lists.{all_changed, all_more, all_take, length-changed}
 use Rattle.contexts.specs.Contexts.{fresh_of}
-use Rattle.contexts.specs.Queue.{drawn, pushed, taken, without_first}
+use Rattle.contexts.specs.Queue.{drawn, pushed, without_first}
 use Rattle.contexts.specs.Slots.{accepted, activated, activated_by, offered, on_active, woken}
 use Rattle.contexts.specs.Slots as slots
-use Rattle.contexts.specs.Sound.{IsSoundContext, IsSoundSlot, IsSoundSlots}
+use Rattle.contexts.specs.Sound.{IsSoundContext, IsSoundSlot}
 use Rattle.contexts.specs.declared.context.Context.{Context}
 use Rattle.contexts.specs.declared.context.Item.{Item}
 use Rattle.contexts.specs.declared.context.Origin.{Origin}
@@ -25,11 +25,11 @@ use Rattle.entries.specs.declared.change.Downlink.TheVariants as down
 use Rattle.entries.specs.declared.change.OwnContext.{OwnContext}
 use Rattle.entries.specs.declared.used_seed.UsedSeed.{UsedSeed}
 use Rattle.entries.specs.declared.used_seed.UsedSeed.TheVariants.{Rejoin0, Rejoin1, Rejoin2}
-use Rattle.entry_codec.specs.Devices.{answered, called_back, counted, heard, in_slots, joined, kept_count, lapsed, lent_out, marked, put_granted, queued, rejoined, seed_of, stepped, with_count, with_grant, with_own, with_seed, with_session}
-use Rattle.entry_codec.specs.Fits.{can_queue, fits_slots, takes}
+use Rattle.entry_codec.specs.Devices.{answered, called_back, counted, heard, in_slots, joined, kept_count, lapsed, lent_out, marked, queued, rejoined, seed_of, stepped, with_count, with_grant, with_session}
+use Rattle.entry_codec.specs.Fits.{can_queue, takes}
 use Rattle.entry_codec.specs.LookUps.{slot_has}
 use Rattle.entry_codec.specs.Ordered.{IsRisingBy}
-use Rattle.entry_codec.specs.Sound.{AreSlots, Differ, HasNonceTo, HasRow, IsGivenBefore, IsSeededTo, IsSoundDevice, OnSlot, count_if, device_uses, has_context, slots_use}
+use Rattle.entry_codec.specs.Sound.{AreSlots, Differ, HasNonceTo, HasRow, IsSeededTo, IsSoundDevice, OnSlot, count_if, device_uses, has_context, slots_use}
 use Rattle.entry_codec.specs.declared.device.Device.{Device}
 use Rattle.entry_codec.specs.declared.device.Granted.{Granted}
 use Rattle.entry_codec.specs.declared.device.KeptSeed.{KeptSeed}

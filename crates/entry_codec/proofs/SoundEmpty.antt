@@ -1,25 +1,21 @@
 -- What holds of every state holds of the first.
-use Rattle.std.proofs.Common.{◌≡◌, ℕ, zero, suc, ◌+◌, ◌<◌, ◌≤◌, Bool, true, false, cond, eqb, List, [], ◌∷◌, ◌++◌, length, map, take, get_or, add-one, Option, Some, None, refl, sym, ap, subst, ◌∙◌, arith}
-use Rattle.std.specs.Prelude.{IsTrue, ◌||◌, filter_map, nat_lt, not, sum_by}
+use Rattle.std.proofs.Common.{◌≡◌, ℕ, zero, suc, ◌+◌, ◌<◌, ◌≤◌, Bool, true, false, cond, eqb, List, [], ◌∷◌, ◌++◌, length, map, take, get_or, add-one, Option, Some, None, refl, ap, ◌∙◌, arith}
+use Rattle.std.specs.Prelude.{IsTrue, ◌||◌, nat_lt, sum_by}
 use Rattle.std.specs.List.{AllByRecursion, cons_option}
 use Rattle.std.proofs.lemmas.List.{length-map}
 use Rattle.std.proofs.lemmas.List.Sums.{sum_by-cons}
 use Rattle.wire_ids.specs.declared.address.DevAddr.{DevAddr}
 use Rattle.wire_ids.specs.declared.party.Sender.{Sender}
-use Rattle.wire_ids.specs.declared.party.Sender.TheVariants.{Network, Party}
 use Rattle.agreements.specs.Walk.{Config}
 use Rattle.agreements.specs.declared.rows.ApplicationRow.{ApplicationRow}
 use Rattle.agreements.specs.declared.rows.DeviceRow.{DeviceRow}
 use Rattle.agreements.specs.declared.rows.GatewayRow.{GatewayRow}
 use Rattle.agreements.specs.declared.rows.NetworkRow.{NetworkRow}
-use Rattle.entry_codec.specs.Empty.{application_sender, empty, empty_kept, gateway_sender, in_order, names_of, network_sender, new_device, no_answers, put_sender, put_senders, sender_number, senders_of}
+use Rattle.entry_codec.specs.Empty.{application_sender, empty, empty_kept, gateway_sender, names_of, network_sender, new_device, no_answers, put_sender, put_senders, sender_number, senders_of}
 use Rattle.entry_codec.specs.Ends.{DeviceEndsFrom, EndsFrom}
 use Rattle.entry_codec.specs.Index.{names, row_number}
-use Rattle.entry_codec.specs.Kept.{AllFew, HasFew}
-use Rattle.entry_codec.specs.Machine.{Machine}
-use Rattle.entry_codec.specs.Ordered.{put_in}
+use Rattle.entry_codec.specs.Kept.{AllFew}
 use Rattle.entry_codec.specs.Sound.{IsSound, IsSoundDevice, device_uses, network_of, networks}
-use Rattle.entry_codec.specs.declared.device.Device.{Device}
 
 -- ---- senders
 

@@ -1,25 +1,20 @@
 -- Marks of a window of addresses, and the first that has none.
-use Rattle.std.proofs.Common.{◌≡◌, ◌≢◌, ℕ, zero, suc, ◌+◌, ◌-◌, ◌<◌, ◌≤◌, ◌/◌, ◌^◌, Bool, true, false, cond, eqb, List, [], ◌∷◌, ◌++◌, length, map, take, get_or, add-one, Option, Some, None, option_map, refl, sym, ap, subst, ◌∙◌, arith, inl, inr, eq-eqb}
-use Rattle.std.specs.Prelude.{◌==◌, ◌&&◌, ◌||◌, is_some, nat_lt, not, option_and_then, position, slice_index_or, slice_set}
+use Rattle.std.proofs.Common.{◌≡◌, ℕ, zero, suc, ◌+◌, ◌-◌, ◌<◌, ◌≤◌, ◌^◌, Bool, true, false, cond, List, [], ◌∷◌, length, get_or, Option, Some, None, option_map, refl, sym, ap, subst, ◌∙◌, arith}
+use Rattle.std.specs.Prelude.{◌&&◌, ◌||◌, is_some, nat_lt, not, option_and_then, position}
 use Rattle.std.specs.List.{filter, list_any, position_or_len}
-use Rattle.std.proofs.lemmas.Bool.{cases_Bool, eqb-true, false≢true, ltb-false}
+use Rattle.std.proofs.lemmas.Bool.{ltb-false}
 use borrow.Author.Tests.{ltb-true}
-use Rattle.std.proofs.lemmas.List.{get_or-set_other, get_or-set_same, length-set}
 use Rattle.entry_codec.proofs.Ordered.{place_found, place_past, place_within}
 use Rattle.wire_ids.specs.Addresses.{address_of, base_of, free_bits, room_of, type_of}
 use Rattle.wire_ids.specs.Lists.{holds_of}
 use Rattle.wire_ids.specs.declared.address.DevAddr.{DevAddr}
 use Rattle.contexts.specs.declared.context.Context.{Context}
 use Rattle.contexts.specs.declared.slots.Slots.{Slots}
-use Rattle.entry_codec.specs.Devices.{lapsed}
-use Rattle.entry_codec.specs.Free.{IsFirstFree, Marks, addr_of, ask_stays, free_address, free_from, is_number_taken, is_the, leaving, slots_leave, visitor_stays, window}
+use Rattle.entry_codec.specs.Free.{IsFirstFree, Marks, addr_of, ask_stays, free_address, free_from, is_number_taken, leaving, slots_leave, visitor_stays, window}
 use Rattle.entry_codec.specs.LookUps.{asks_for, device_has, is_addr, is_taken, leaves, leaves_slots, lives, slot_has, slots_have, slots_of, visitor_has}
 use Rattle.entry_codec.specs.Machine.{Machine, is_open, lapse, visits, wake}
 use Rattle.entry_codec.specs.Sound.{IsSound}
-use Rattle.entry_codec.specs.declared.device.Device.{Device}
 use Rattle.entry_codec.specs.declared.parties.Holder.{Holder}
-use Rattle.entry_codec.specs.declared.parties.OpenAsk.{OpenAsk}
-use Rattle.entry_codec.specs.declared.parties.Visitor.{Visitor}
 use Rattle.entry_codec.proofs.Ready.{any_lapsed, taken_awake}
 use Rattle.entry_codec.proofs.Sound.{sound_lapsed}
 

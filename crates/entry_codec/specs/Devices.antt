@@ -1,5 +1,5 @@
 -- What the steps of one device leave.
-use Rattle.std.specs.Prelude.{ℕ, ◌+◌, ◌*◌, ◌^◌, ◌==◌, ◌&&◌, nat_le, nat_lt, List, ◌∷◌, length, take, slice_get, Option, Some, None, Bool, true, false, if◌then◌else◌}
+use Rattle.std.specs.Prelude.{ℕ, ◌==◌, ◌&&◌, nat_le, nat_lt, List, ◌∷◌, length, take, slice_get, Option, Some, None, Bool, false, if◌then◌else◌}
 use Rattle.std.specs.List.{filter}
 use Rattle.wire_ids.specs.declared.keys.Seed.{Seed}
 use Rattle.wire_ids.specs.Lists.{changed, holds_of}

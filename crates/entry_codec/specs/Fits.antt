@@ -1,11 +1,10 @@
 -- Which entries fit a state.
-use Rattle.std.specs.Prelude.{ℕ, ◌+◌, ◌^◌, ◌==◌, ◌&&◌, ◌||◌, nat_lt, nat_le, not, List, length, slice_get, Option, Some, None, Bool, true, false, is_some, if◌then◌else◌}
-use Rattle.std.specs.List.{filter, list_any}
+use Rattle.std.specs.Prelude.{ℕ, ◌^◌, ◌==◌, ◌&&◌, ◌||◌, nat_lt, nat_le, not, length, slice_get, Option, Some, None, Bool, true, false, is_some, if◌then◌else◌}
+use Rattle.std.specs.List.{list_any}
 use Rattle.wire_ids.specs.Lists.{holds_of}
 use Rattle.wire_ids.specs.declared.address.DevAddr.{DevAddr}
 use Rattle.wire_ids.specs.declared.eui.Eui.{Eui}
 use Rattle.wire_ids.specs.declared.party.Sender.{Sender}
-use Rattle.wire_ids.specs.declared.party.Sender.TheVariants.{Network, Party}
 use Rattle.contexts.specs.Slots.{woken}
 use Rattle.contexts.specs.declared.context.Context.{Context}
 use Rattle.contexts.specs.declared.slots.Slots.{Slots}
@@ -14,7 +13,6 @@ use Rattle.entries.specs.declared.ask.Effect.{Effect}
 use Rattle.entries.specs.declared.ask.Effect.TheVariants as effect
 use Rattle.entries.specs.declared.ask.HeldSession.{HeldSession}
 use Rattle.entries.specs.declared.ask.NewAsk.{NewAsk}
-use Rattle.entries.specs.declared.ask.NewVisitor.{NewVisitor}
 use Rattle.entries.specs.declared.ask.RejoinCount.{RejoinCount}
 use Rattle.entries.specs.declared.change.Change.{Change}
 use Rattle.entries.specs.declared.change.Change.TheVariants as change
@@ -24,11 +22,9 @@ use Rattle.entries.specs.declared.change.Joined.{Joined}
 use Rattle.entries.specs.declared.change.Lending.{Lending}
 use Rattle.entries.specs.declared.change.OwnContext.{OwnContext}
 use Rattle.entries.specs.declared.change.PassiveUplink.{PassiveUplink}
-use Rattle.entries.specs.declared.change.Queued.{Queued}
 use Rattle.entries.specs.declared.change.Rejoined.{Rejoined}
 use Rattle.entries.specs.declared.change.RoamingKind.{RoamingKind}
 use Rattle.entries.specs.declared.change.RoamingKind.TheVariants as kind
-use Rattle.entries.specs.declared.change.Stopped.{Stopped}
 use Rattle.entries.specs.declared.change.Uplink.{Uplink}
 use Rattle.entries.specs.declared.entry.Entry.{Entry}
 use Rattle.entries.specs.declared.entry.Event.{Event}

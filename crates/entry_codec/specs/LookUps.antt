@@ -1,8 +1,7 @@
 -- What decisions look for in a state.
-use Rattle.std.specs.Prelude.{ℕ, ◌+◌, ◌==◌, ◌&&◌, ◌||◌, not, zero, suc, List, length, find, position, slice_get, Option, Some, None, option_map, option_and_then, Bool, true, false, is_some, if◌then◌else◌}
+use Rattle.std.specs.Prelude.{ℕ, ◌==◌, ◌&&◌, ◌||◌, not, List, find, position, slice_get, Option, Some, None, option_map, Bool, true, false, is_some}
 use Rattle.std.specs.List.{filter, list_any}
 use Rattle.std.specs.Str.{bytes_eq}
-use Rattle.wire_ids.specs.Addresses.{address_of, base_of, room_of}
 use Rattle.wire_ids.specs.Lists.{at_place, holds_of}
 use Rattle.wire_ids.specs.declared.address.DevAddr.{DevAddr}
 use Rattle.wire_ids.specs.declared.eui.Eui.{Eui}
@@ -12,7 +11,6 @@ use Rattle.wire_ids.specs.declared.party.Sender.{Sender}
 use Rattle.wire_ids.specs.declared.party.Sender.TheVariants.{Network, Party}
 use Rattle.contexts.specs.declared.context.Context.{Context}
 use Rattle.contexts.specs.declared.slots.Slots.{Slots}
-use Rattle.entries.specs.declared.ask.HeldSession.{HeldSession}
 use Rattle.entry_codec.specs.Machine.{Machine, is_dev, is_home, is_other, is_visitor, place_of}
 use Rattle.entry_codec.specs.declared.device.Device.{Device}
 use Rattle.entry_codec.specs.declared.parties.Holder.{Holder}

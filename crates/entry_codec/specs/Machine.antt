@@ -1,7 +1,7 @@
 -- The state that decisions read, as plain data, and what an entry makes of it.
 use Rattle.std.specs.Prelude.{ℕ, ◌+◌, ◌*◌, ◌^◌, ◌==◌, ◌&&◌, nat_lt, not, List, [], ◌∷◌, ◌++◌, map, find, position, slice_get, Option, Some, None, Bool, true, false, if◌then◌else◌}
 use Rattle.std.specs.List.{filter, list_any}
-use Rattle.wire_ids.specs.Lists.{at_place, changed, changed_first, holds_of}
+use Rattle.wire_ids.specs.Lists.{changed, changed_first, holds_of}
 use Rattle.wire_ids.specs.declared.address.DevAddr.{DevAddr}
 use Rattle.wire_ids.specs.declared.eui.Eui.{Eui}
 use Rattle.wire_ids.specs.declared.party.Sender.{Sender}

@@ -1,11 +1,10 @@
 -- What a state stands for, and what an entry makes of it.
-use Rattle.std.specs.Prelude.{ℕ, ◌≤◌, List, length, Option, Some, None, IsTrue}
+use Rattle.std.specs.Prelude.{ℕ, ◌≤◌, List, length, IsTrue}
 use Rattle.wire_ids.specs.Lists.{holds_of}
 use Rattle.entries.specs.declared.change.Change.{Change}
 use Rattle.entries.specs.declared.change.Change.TheVariants as change
 use Rattle.entry_codec.specs.Devices.{can_grant}
 use Rattle.entry_codec.specs.LookUps.{device_named}
-use Rattle.entries.specs.declared.ask.AskOutcome.{AskOutcome}
 use Rattle.entries.specs.declared.ask.Effect.{Effect}
 use Rattle.entries.specs.declared.ask.Effect.TheVariants as effect
 use Rattle.entries.specs.declared.entry.Entry.{Entry}

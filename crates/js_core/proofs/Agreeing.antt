@@ -16,13 +16,11 @@ use Rattle.agreements.specs.declared.rows.DeviceRow.{DeviceRow}
 use Rattle.agreements.specs.declared.rows.NetworkRow.{NetworkRow}
 use Rattle.backend_json.specs.Keys.{key_if, members_of_keys}
 use Rattle.backend_json.proofs.KeysWritten.{app_s_key_written, home_ns_written, join_written, none_written, rejoin_written}
-use Rattle.backend_json.specs.declared.answer.Outcome.{Outcome}
 use Rattle.backend_json.specs.declared.head.Head.{Head}
 use Rattle.backend_json.specs.declared.request.AppSKeyRequest.{AppSKeyRequest}
 use Rattle.backend_json.specs.declared.request.JoinRequest.{JoinRequest}
-use Rattle.entitlement.specs.Keys.{Entry, entitled}
+use Rattle.entitlement.specs.Keys.{entitled}
 use Rattle.entitlement.specs.Roles.{role}
-use Rattle.entitlement.specs.declared.roles.AnswerKind.{AnswerKind}
 use Rattle.entitlement.specs.declared.roles.AnswerKind.TheVariants as answer
 use Rattle.entitlement.specs.declared.roles.Facts.{Facts}
 use Rattle.entitlement.specs.declared.roles.Role.TheVariants.{Application, Home, Stranger}
@@ -35,11 +33,11 @@ use Rattle.entry_codec.specs.declared.device.KeptSeed.{KeptSeed}
 use Rattle.join_frames.specs.declared.join_up.JoinUp.{JoinUp}
 use Rattle.js_core.specs.declared.activation.Activation.{Activation}
 use Rattle.js_core.specs.declared.activation.Activation.TheVariants as by
-use Rattle.js_core.specs.Agreement.{Agrees, AnswersAgree, KeysAgree, entitled_fields, facts_of}
+use Rattle.js_core.specs.Agreement.{Agrees, AnswersAgree, entitled_fields, facts_of}
 use Rattle.js_core.specs.Found.{Found, found_of}
 use Rattle.js_core.specs.Frames.{counter_of}
 use Rattle.js_core.specs.Parties.{application_named, is_known, network_of}
-use Rattle.js_core.specs.Replies.{accepted, answer_keys, answer_kind, app_s_key_answer, app_s_key_reply, application_key, entries_for, for_application, for_network, join_members, no_facts, outcome_of, seed_with}
+use Rattle.js_core.specs.Replies.{accepted, answer_keys, answer_kind, app_s_key_answer, app_s_key_reply, application_key, entries_for, for_application, for_network, join_members, no_facts, seed_with}
 use Rattle.js_core.specs.Steps.{change_by, change_of, next_seed, step_of}
 use Rattle.js_core.proofs.Cases.{HoldsInCases, IsAsked, IsJoin, StandsAt, by_cases, found_name, found_there, same_eui, stands_at}
 use Rattle.js_core.proofs.Changes.{slice_get-changed_same}

@@ -5,7 +5,6 @@ use Rattle.std.specs.List.{list_any}
 use Rattle.std.proofs.lemmas.Bool.{cases_Bool, false≢true}
 use Rattle.wire_ids.specs.Lists.{changed}
 use Rattle.wire_ids.proofs.Lists.{changed-cons}
-use Rattle.wire_ids.specs.declared.decision.Decision.TheVariants as decision
 use Rattle.wire_ids.specs.declared.keys.RootKeys.{RootKeys}
 use Rattle.wire_ids.specs.declared.keys.Seed.{Seed}
 use Rattle.key_vault.specs.Keys.{app_session_key, network_keys}
@@ -28,15 +27,13 @@ use Rattle.backend_json.specs.declared.request.Request.{Request}
 use Rattle.entitlement.specs.Keys.{Entry}
 use Rattle.entitlement.specs.declared.roles.AnswerKind.TheVariants as answer
 use Rattle.entry_codec.specs.Machine.{Machine}
-use Rattle.entry_codec.specs.declared.device.KeptSeed.{KeptSeed}
 use Rattle.js_core.specs.declared.activation.Activation.{Activation}
 use Rattle.js_core.specs.declared.activation.Activation.TheVariants as by
 use Rattle.js_core.specs.AppKey.{AnswersAlike, AppKeyStays, DecisionsAlike, is_entitled, keys_without, row_with_app_key, with_app_key, without_aes_key, without_key}
-use Rattle.js_core.specs.Found.{Found}
 use Rattle.js_core.specs.Parties.{application_named}
 use Rattle.js_core.specs.Replies.{JsDecision, accept_of, answer_keys, answer_kind, app_s_key_answer, entries_for, for_application, for_network, is_app_s_key, is_f_nwk_s_int_key, is_nwk_s_enc_key, is_s_nwk_s_int_key, join_members, js_decided, outcome_of, sealed_by, where_set}
 use Rattle.js_core.specs.Steps.{next_seed}
-use Rattle.js_core.proofs.Cases.{HoldsInCases, IsAsked, IsJoin, by_cases, found_row, stands_at}
+use Rattle.js_core.proofs.Cases.{HoldsInCases, by_cases, found_row, stands_at}
 use Rattle.js_core.proofs.Unread.{SameBare, same_bare, unread}
 
 -- ---- the root keys of two tables that differ in one AppKey

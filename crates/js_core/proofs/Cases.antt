@@ -29,7 +29,7 @@ use Rattle.js_core.specs.Found.{Found, found_at, found_of, found_with}
 use Rattle.js_core.specs.Frames.{join_up_of}
 use Rattle.js_core.specs.Parties.{is_net}
 use Rattle.js_core.specs.Replies.{JsDecision, accepted, app_s_key_reply, app_s_key_success_at, app_s_key_success_with, home_ns_success_at, join_success, join_success_at, js_decided, refuses, seed_with, success_of}
-use Rattle.js_core.specs.Rules.{app_s_key_rules_at, by_rules, home_ns_rules_at, is_no_session, join_rules, rules_of, unknown_rules, wrong_home}
+use Rattle.js_core.specs.Rules.{app_s_key_rules_at, by_rules, is_no_session, join_rules, rules_of, wrong_home}
 use Rattle.js_core.specs.Rules as rule
 use Rattle.js_core.specs.Steps as step
 use Rattle.js_core.proofs.Causes.{first_said, none_said}

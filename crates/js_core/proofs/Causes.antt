@@ -1,5 +1,5 @@
 -- What the first rule that holds, or none, makes of a request.
-use Rattle.std.proofs.Common.{◌≡◌, ℕ, Bool, true, false, cond, List, [], ◌∷◌, Option, Some, None, refl, sym, ap, ◌∙◌}
+use Rattle.std.proofs.Common.{◌≡◌, ℕ, Bool, true, false, cond, List, [], ◌∷◌, Some, None, refl, sym, ap, ◌∙◌}
 use Rattle.wire_ids.specs.Rules.{Rule, first_rule}
 use Rattle.wire_ids.specs.declared.decision.Decision.TheVariants as decision
 use Rattle.agreements.specs.Walk.{Config}

@@ -1,5 +1,5 @@
 -- A list with one element changed.
-use Rattle.std.proofs.Common.{◌≡◌, ◌≢◌, ℕ, zero, suc, List, [], ◌∷◌, map, Option, Some, None, option_map, slice_get, refl, ap, ◌∙◌}
+use Rattle.std.proofs.Common.{◌≡◌, ◌≢◌, ℕ, zero, suc, List, [], ◌∷◌, map, Some, option_map, slice_get, refl, ap, ◌∙◌}
 use Rattle.wire_ids.specs.Lists.{changed}
 use Rattle.wire_ids.proofs.Lists.{changed-cons}
 

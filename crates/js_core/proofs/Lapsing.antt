@@ -1,5 +1,5 @@
 -- What lapses isn't looked at.
-use Rattle.std.proofs.Common.{◌≡◌, ℕ, List, Option, Some, None, option_map, refl, sym, ap, ◌∙◌, slice_get}
+use Rattle.std.proofs.Common.{◌≡◌, ℕ, List, Option, Some, None, option_map, refl, ap, ◌∙◌, slice_get}
 use Rattle.std.proofs.lemmas.Option.{slice_get-map}
 use Rattle.wire_ids.specs.declared.eui.Eui.{Eui}
 use Rattle.agreements.specs.LookUps.{device_place}
@@ -19,8 +19,8 @@ use Rattle.js_core.specs.declared.activation.Activation.{Activation}
 use Rattle.js_core.specs.declared.activation.Activation.TheVariants as by
 use Rattle.js_core.specs.Found.{Found, found_at, found_of, found_with}
 use Rattle.js_core.specs.Frames.{join_up_of}
-use Rattle.js_core.specs.Replies.{JsDecision, app_s_key_success_at, home_ns_success_at, join_success, join_success_at, js_decided, refuses, success_of}
-use Rattle.js_core.specs.Rules.{app_s_key_rules_at, by_rules, home_ns_rules_at, join_rules, join_rules_at, rules_of}
+use Rattle.js_core.specs.Replies.{JsDecision, app_s_key_success_at, home_ns_success_at, join_success, join_success_at, js_decided, refuses}
+use Rattle.js_core.specs.Rules.{app_s_key_rules_at, by_rules, home_ns_rules_at, join_rules, join_rules_at}
 use Rattle.js_core.specs.Steps.{seed_place}
 
 abbrev found_lapsed : ℕ → Found → Found

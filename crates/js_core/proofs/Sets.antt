@@ -4,10 +4,10 @@ use Rattle.std.specs.List.{list_any}
 use Rattle.entitlement.specs.Keys.{entries_of}
 use Rattle.entitlement.specs.declared.keys.KeySet.{KeySet}
 use Rattle.wire_ids.specs.declared.keys.Seed.{Seed}
-use Rattle.key_vault.specs.Keys.{app_session_key, network_keys}
+use Rattle.key_vault.specs.Keys.{network_keys}
 use Rattle.agreements.specs.Walk.{Config}
 use Rattle.agreements.specs.declared.rows.DeviceRow.{DeviceRow}
-use Rattle.js_core.specs.Replies.{answer_keys, application_key, for_application, for_network, is_app_s_key, is_nwk_s_enc_key, is_f_nwk_s_int_key, is_s_nwk_s_int_key, where_set}
+use Rattle.js_core.specs.Replies.{answer_keys, application_key, for_network, is_app_s_key, is_nwk_s_enc_key, is_f_nwk_s_int_key, is_s_nwk_s_int_key, where_set}
 
 abbrev set_of : Bool → Bool → Bool → Bool → KeySet
 set_of f s e app = record { f = f; s = s; e = e; app = app }

@@ -22,7 +22,6 @@ use Rattle.js_core.specs.declared.activation.Activation.TheVariants as by
 use Rattle.js_core.specs.AppKey.{row_with_app_key, with_app_key}
 use Rattle.js_core.specs.Found.{Found, found_at, found_of, found_with}
 use Rattle.js_core.specs.Frames.{join_up_of}
-use Rattle.js_core.specs.Parties.{is_known, may_send, reaches}
 use Rattle.js_core.specs.Replies.{JsDecision, answer_keys, app_s_key_answer, app_s_key_success_at, app_s_key_success_with, for_application, for_network, home_ns_success_at, join_members, join_success, join_success_at, js_decided, refuses, seed_with}
 use Rattle.js_core.specs.Rules.{app_s_key_rules_at, by_rules, home_ns_rules_at, join_rules, join_rules_at}
 use Rattle.js_core.proofs.Changes.{map-changed}

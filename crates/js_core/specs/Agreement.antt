@@ -15,7 +15,6 @@ use Rattle.agreements.specs.declared.rows.NetworkRow.{NetworkRow}
 use Rattle.backend_json.specs.Keys.{KeyMember, key_member, key_members}
 use Rattle.backend_json.specs.declared.answer.Answer.{Answer}
 use Rattle.backend_json.specs.declared.answer.Answer.TheVariants.{Headed, Headless}
-use Rattle.backend_json.specs.declared.answer.AppSKeyAnswer.{AppSKeyAnswer}
 use Rattle.backend_json.specs.declared.answer.Outcome.{Outcome}
 use Rattle.backend_json.specs.declared.answer.Outcome.TheVariants.{AppSKeyAns, HomeNSAns, JoinAns, Refused, RejoinAns}
 use Rattle.backend_json.specs.declared.head.Head.{Head}

@@ -1,5 +1,5 @@
 -- The rules by which requests are refused, in their order: the first that holds gives the answer.
-use Rattle.std.specs.Prelude.{◌≡◌, ℕ, ◌==◌, ◌||◌, not, List, [], ◌∷◌, map, Option, Some, None, Bool, true, false, is_none, if◌then◌else◌}
+use Rattle.std.specs.Prelude.{◌≡◌, ℕ, ◌==◌, ◌||◌, not, List, [], ◌∷◌, map, Option, Some, None, Bool, true, is_none, if◌then◌else◌}
 use Rattle.std.specs.List.{list_any}
 use Rattle.wire_ids.specs.Lists.{holds_of}
 use Rattle.wire_ids.specs.Rules.{Rule}

@@ -1,5 +1,5 @@
 -- The join step: what stands against a join- or rejoin-request of a device, and what it gives (LoRaWAN 1.1, 6.2.2 to 6.2.4).
-use Rattle.std.specs.Prelude.{◌≡◌, ℕ, ◌+◌, ◌-◌, ◌==◌, nat_le, not, List, length, take, drop, position, slice_get, Option, Some, None, option_map, Bool, false, is_none, if◌then◌else◌}
+use Rattle.std.specs.Prelude.{ℕ, ◌+◌, ◌-◌, ◌==◌, nat_le, not, List, length, take, drop, position, Option, Some, None, option_map, Bool, false, is_none, if◌then◌else◌}
 use Rattle.std.specs.Str.{bytes_eq}
 use Rattle.wire_ids.specs.Lists.{at_place, holds_of}
 use Rattle.wire_ids.specs.declared.keys.Seed.{Seed}

@@ -1,5 +1,5 @@
 -- How a run of a keeper's calls goes on, for the layers above; with disk_model's Moments.
-use Rattle.std.proofs.Common.{◌≡◌, ◌↔◌, inl, inr, ⊎_elim, ℕ, ◌≤◌, refl, sym, ◌∙◌, subst, arith}
+use Rattle.std.proofs.Common.{◌≡◌, ◌↔◌, inl, inr, ⊎_elim, ℕ, refl, ◌∙◌, arith}
 use Rattle.disk_model.specs.Disk.{LeavesOnly}
 use Rattle.keepers.specs.Keeper.{Image, Quiet}
 

@@ -1,11 +1,9 @@
 -- A keeper over a journal has the laws of a keeper.
-use Rattle.std.specs.Prelude.{◌≡◌, ◌<◌, ◌≤◌, ◌+◌, ◌^◌, ◌↔◌, ◌++◌, ◌∷◌, [], ℕ, List, Option, Some, length, take}
+use Rattle.std.specs.Prelude.{◌≡◌, ◌<◌, ◌^◌, ◌↔◌, ◌++◌, ◌∷◌, [], ℕ, List, Option, Some, length, take}
 use Rattle.std.proofs.Common.{sym, ◌∙◌, ap, subst, inl, inr, arith}
 use Rattle.disk_model.specs.Disk.{WhereTold}
 use Rattle.disk_journal.specs.Format.{journal_of, kept}
 use Rattle.disk_journal.specs.Journal.{place}
-use Rattle.disk_journal.specs.Journals.{journal_disk, journal_end, journal_count, Doubts, Holds, Rests}
-use Rattle.disk_journal.specs.declared.journal.Journal.{Journal}
 use Rattle.disk_journal.proofs.Results.{mapped}
 use Rattle.disk_journal.proofs.Records.{journal_shut}
 use Rattle.disk_journal.proofs.Put.{may_have_journal}

@@ -30,7 +30,7 @@ use Rattle.entries.specs.declared.entry.Request.{Request}
 use Rattle.entries.specs.declared.used_seed.UsedSeed.{UsedSeed}
 use Rattle.entries.specs.declared.used_seed.UsedSeed.TheVariants.{Rejoin0, Rejoin1, Rejoin2}
 use Rattle.entries.specs.declared.change.Joined.{Joined}
-use Rattle.entry_codec.specs.Devices.{called_back, heard, in_slots, joined, kept_count, lapsed, lent_out, marked, queued, rejoined, seed_of, with_granted, with_session}
+use Rattle.entry_codec.specs.Devices.{called_back, heard, in_slots, joined, kept_count, lapsed, lent_out, marked, queued, rejoined, seed_of, with_grant, with_session}
 use Rattle.entry_codec.specs.Empty.{empty, new_device}
 use Rattle.entry_codec.specs.Fits.{fits, fits_change, fits_event, fits_join, fits_lending, fits_own, fits_rejoin, fits_step, fits_used, is_above}
 use Rattle.entry_codec.specs.Index.{device_number, is_number, names, row_number}
@@ -124,9 +124,9 @@ climbs-called_back : (d : Device) → last d.dev_nonce ≤ last (called_back d).
 unfolding called_back
 climbs-called_back d = omega arith
 
-climbs-with_granted : (g : Granted) (d : Device) → last d.dev_nonce ≤ last (with_granted g d).dev_nonce
-unfolding with_granted
-climbs-with_granted g d = omega arith
+climbs-with_grant : (g : Granted) (d : Device) → last d.dev_nonce ≤ last (with_grant g d).dev_nonce
+unfolding with_grant
+climbs-with_grant g d = omega arith
 
 -- ---- events
 
@@ -187,8 +187,8 @@ climbs-change sender (change.Lent l) m h =
     climbs-lent l.used l.device l.counter l.join_nonce (lent_to l) m (and_right (is_network l.net m) (holds_of (fits_lending l) (slice_get m.devices l.device)) h)
 climbs-change sender (change.Up u) m h = climbs-on_slots (holder_of u.dev_eui m) (heard u.pending u.count u.frame u.down) m
 climbs-change sender (change.Passive p) m h =
-    let k = on_place (place_of p.up.dev_eui m) (with_granted (granted_by p)) m in
-    climbs_then m k (on_slots (holder_of p.up.dev_eui m) (heard p.up.pending p.up.count p.up.frame p.up.down) k) (climbs-on_place (place_of p.up.dev_eui m) (with_granted (granted_by p)) m (climbs-with_granted (granted_by p)))
+    let k = on_place (place_of p.up.dev_eui m) (with_grant (granted_by p)) m in
+    climbs_then m k (on_slots (holder_of p.up.dev_eui m) (heard p.up.pending p.up.count p.up.frame p.up.down) k) (climbs-on_place (place_of p.up.dev_eui m) (with_grant (granted_by p)) m (climbs-with_grant (granted_by p)))
     (climbs-on_slots (holder_of p.up.dev_eui m) (heard p.up.pending p.up.count p.up.frame p.up.down) k)
 climbs-change sender (change.Queue q) m h = climbs-on_device q.device (queued (item_of q)) m (λ d e. climbs-queued (item_of q) d)
 climbs-change sender (change.Dropped d) m h = climbs-dropped d.what sender d.dev_eui m

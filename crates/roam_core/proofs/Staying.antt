@@ -20,7 +20,7 @@ use Rattle.entries.specs.declared.entry.Event.{Event}
 use Rattle.entries.specs.declared.entry.Event.TheVariants as event
 use Rattle.entries.specs.declared.used_seed.UsedSeed.{UsedSeed}
 use Rattle.entries.specs.declared.used_seed.UsedSeed.TheVariants.{Rejoin0, Rejoin1, Rejoin2}
-use Rattle.entry_codec.specs.Devices.{called_back, heard, in_slots, joined, lapsed, lent_out, marked, queued, rejoined, with_granted}
+use Rattle.entry_codec.specs.Devices.{called_back, heard, in_slots, joined, lapsed, lent_out, marked, queued, rejoined, with_grant}
 use Rattle.entry_codec.specs.Empty.{empty}
 use Rattle.entry_codec.specs.Machine.{Machine, after, asked, closed, granted_by, holder_of, item_of, lapse, lent_to, on_change, on_device, on_dropped, on_effect, on_event, on_place, on_slots, place_of, ready, wake, wakes, with_rejoin}
 use Rattle.entry_codec.specs.declared.device.Device.{Device}
@@ -59,9 +59,6 @@ keeps-lent_out (Some used) counter join_nonce to d = keeps-rejoined used counter
 keeps-called_back : Keeps called_back
 unfolding called_back
 keeps-called_back d = refl
-
-
-
 
 keeps-marked : (suspended : Bool) → Keeps (marked suspended)
 unfolding marked
@@ -104,16 +101,16 @@ stays-dropped kind.Lent sender dev m = stays-on_place (place_of dev m) called_ba
 stays-dropped kind.Visitor sender dev m = record { devices = refl; senders = refl }
 
 stays-change : (sender : Sender) (c : Change) (m : Machine) → Stays m (on_change sender c m)
-unfolding on_change queued with_granted
+unfolding on_change queued with_grant
 stays-change sender (change.Join j) m = stays-on_device j.device (joined j.counter j.join_nonce j.own) m (keeps-joined j.counter j.join_nonce j.own)
 stays-change sender (change.Rejoin j) m = stays-on_device j.device (rejoined j.used j.counter j.join_nonce j.own) m (keeps-rejoined j.used j.counter j.join_nonce j.own)
 stays-change sender (change.Lent l) m = stays-on_device l.device (lent_out l.used l.counter l.join_nonce (lent_to l)) m (keeps-lent_out l.used l.counter l.join_nonce (lent_to l))
 stays-change sender (change.Up u) m = stays-on_slots (holder_of u.dev_eui m) (heard u.pending u.count u.frame u.down) m
 stays-change sender (change.Passive p) m =
-    let k = on_place (place_of p.up.dev_eui m) (with_granted (granted_by p)) m in
+    let k = on_place (place_of p.up.dev_eui m) (with_grant (granted_by p)) m in
     let u = p.up in
     stays_then m k (on_slots (holder_of u.dev_eui m) (heard u.pending u.count u.frame u.down) k)
-    (stays-on_place (place_of u.dev_eui m) (with_granted (granted_by p)) m (λ d. refl)) (stays-on_slots (holder_of u.dev_eui m) (heard u.pending u.count u.frame u.down) k)
+    (stays-on_place (place_of u.dev_eui m) (with_grant (granted_by p)) m (λ d. refl)) (stays-on_slots (holder_of u.dev_eui m) (heard u.pending u.count u.frame u.down) k)
 stays-change sender (change.Queue q) m = stays-on_device q.device (queued (item_of q)) m (λ d. refl)
 stays-change sender (change.Dropped d) m = stays-dropped d.what sender d.dev_eui m
 

@@ -1,6 +1,4 @@
-use Rattle.std.proofs.Common.{arith, rules, sym, ap, ◌≡◌, ◌∙◌, ◌≤◌, ◌+◌, false, length}
-use Rattle.std.specs.Prelude.{◌==◌, slice_get}
-use Rattle.wire_ids.specs.Lists.{holds_of}
+use Rattle.std.proofs.Common.{arith, rules, sym, ◌≡◌, ◌∙◌, ◌≤◌, ◌+◌, length}
 use Rattle.entry_codec.specs.declared.device.Granted.{Granted}
 use Rattle.entry_codec.specs.Devices.{net_of, put_granted}
 use Rattle.entry_codec.proofs.Ordered.{length-put_new, most_places, put_new, put_there}

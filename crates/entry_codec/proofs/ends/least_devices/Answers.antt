@@ -1,6 +1,5 @@
-use Rattle.std.proofs.Common.{arith, rules, sym, subst}
+use Rattle.std.proofs.Common.{arith, rules, subst}
 use Rattle.entry_codec.specs.Ends.{DeviceEndsFrom}
-use Rattle.entry_codec.specs.declared.device.Device.{Device}
 use Rattle.entry_codec.proofs.Lasting.{all_next, device-less}
 use Rattle.entry_codec.proofs.ends.least_devices.Goals as goal
 

@@ -1,4 +1,4 @@
-use Rattle.std.proofs.Common.{arith, rules, sym, ap, ◌≡◌, ◌∙◌, ◌≤◌, ◌+◌, length}
+use Rattle.std.proofs.Common.{arith, rules, sym, ◌∙◌}
 use Rattle.entries.specs.declared.ask.HeldSession.{HeldSession}
 use Rattle.entry_codec.specs.Machine.{held_number, hold}
 use Rattle.entry_codec.proofs.Ordered.{length-put_new, most_places, put_new, put_there}

@@ -1,5 +1,4 @@
-use Rattle.std.proofs.Common.{◌≡◌, ℕ, ◌++◌, ◌≤◌, List, [], length, map, refl, sym, subst, arith}
-use Rattle.std.specs.List.{IsDistinct}
+use Rattle.std.proofs.Common.{◌≡◌, ℕ, ◌++◌, ◌≤◌, List, [], length, map, sym, subst, arith}
 use Rattle.std.proofs.lemmas.Cmp.{nat_eq_equiv}
 use Rattle.std.proofs.lemmas.List.{length-append, length-map}
 use Rattle.std.proofs.lemmas.Map.Made.{length-le_from_is_member}
@@ -10,7 +9,7 @@ use Rattle.entries.specs.declared.entry.Event.TheVariants as event
 use Rattle.entry_codec.specs.Empty.{empty}
 use Rattle.entry_codec.specs.Machine.{Machine, after, entered, on_event, ready, visitor_number}
 use Rattle.entry_codec.specs.Sound.{IsSound}
-use Rattle.entry_codec.specs.Told.{AllIn, AsksCanBeTold, AtMostDifferent, is_same}
+use Rattle.entry_codec.specs.Told.{AsksCanBeTold, AtMostDifferent}
 use Rattle.entry_codec.specs.declared.parties.Visitor.{Visitor}
 use Rattle.entry_codec.proofs.Sound.{sound-ready}
 use Rattle.entry_codec.proofs.laws.opened_asks_can_be_told.Goals as goal

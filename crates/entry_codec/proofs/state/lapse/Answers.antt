@@ -1,4 +1,4 @@
-use Rattle.std.proofs.Common.{◌<◌, arith, sym, rules}
+use Rattle.std.proofs.Common.{arith, sym}
 use Rattle.entry_codec.proofs.Lasting.{lapse_idle}
 use Rattle.entry_codec.proofs.state.lapse.Goals as goal
 

@@ -1,4 +1,4 @@
-use Rattle.std.proofs.Common.{arith, rules, sym, ap, ◌≡◌, ◌∙◌, ◌≤◌, length}
+use Rattle.std.proofs.Common.{rules, sym, ◌∙◌}
 use Rattle.entry_codec.specs.Machine.{new_visitor, renewed, visit, visitor_number}
 use Rattle.entry_codec.proofs.Ordered.{most_places, put_new, put_there}
 use Rattle.entry_codec.proofs.visitors.visit.Goals as goal

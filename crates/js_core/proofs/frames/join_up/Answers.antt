@@ -1,5 +1,5 @@
 use Rattle.std.proofs.Common.{sym, arith}
-use Rattle.js_core.proofs.JoinFrames.{fault_read, form_read, form_size}
+use Rattle.js_core.proofs.JoinFrames.{fault_read, form_read}
 use Rattle.js_core.proofs.frames.join_up.Goals as goal
 
 pub returns-in-Ok-clause-fields : goal.returns-in-Ok-clause-fields

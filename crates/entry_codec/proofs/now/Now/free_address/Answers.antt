@@ -1,4 +1,4 @@
-use Rattle.std.proofs.Common.{◌≡◌, ◌<◌, ◌≤◌, ◌^◌, ℕ, None, Option, Some, ap, arith, option_map, refl, subst, sym, ◌∙◌}
+use Rattle.std.proofs.Common.{◌≡◌, ◌<◌, ◌^◌, ℕ, Option, Some, ap, arith, option_map, subst, sym, ◌∙◌}
 use Rattle.wire_ids.specs.Addresses.{address_of, room_of}
 use Rattle.wire_ids.specs.declared.address.DevAddr.{DevAddr}
 use Rattle.entry_codec.specs.Free.{IsFirstFree}

@@ -1,4 +1,4 @@
-use Rattle.std.proofs.Common.{◌≡◌, ◌<◌, ◌+◌, ℕ, Bool, false, List, Option, ap, arith, get_or, length, refl, rules, subst, sym, ◌∙◌}
+use Rattle.std.proofs.Common.{◌+◌, Bool, false, Option, ap, arith, get_or, refl, sym, ◌∙◌}
 use Rattle.std.specs.Prelude.{◌&&◌, ◌||◌, not}
 use Rattle.std.proofs.lemmas.List.{get_or-replicate}
 use Rattle.wire_ids.specs.declared.address.DevAddr.{DevAddr}

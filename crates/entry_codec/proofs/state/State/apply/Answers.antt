@@ -1,7 +1,6 @@
-use Rattle.std.proofs.Common.{◌≡◌, ℕ, ◌<◌, ◌≤◌, ◌^◌, List, Option, min, sym, ap, subst, ◌∙◌, arith}
+use Rattle.std.proofs.Common.{◌≡◌, ℕ, ◌≤◌, List, Option, sym, ap, subst, ◌∙◌, arith}
 use Rattle.std.specs.Prelude.{IsTrue, position}
 use Rattle.std.proofs.Math.Nat.{min-le_left, min-le_right}
-use Rattle.entries.specs.declared.entry.Event.{Event}
 use Rattle.entries.specs.declared.entry.Request.{Request}
 use Rattle.entry_codec.specs.Ends.{EndsFrom, event_end}
 use Rattle.entry_codec.specs.Fits.{fits, fits_event}
@@ -10,8 +9,6 @@ use Rattle.entry_codec.specs.Kept.{AllFew, keep, kept_by}
 use Rattle.entry_codec.specs.Machine.{Machine, after, entered, on_event, ready}
 use Rattle.entry_codec.specs.Sound.{IsSound}
 use Rattle.entry_codec.specs.State.{HasRoomAt, Stored, kept_after}
-use Rattle.entry_codec.specs.declared.device.Device.{Device}
-use Rattle.entry_codec.specs.declared.kept.KeptAnswers.{KeptAnswers}
 use Rattle.entry_codec.proofs.Keeping.{few-keep}
 use Rattle.entry_codec.proofs.Lasting.{ends-entered, ends-event, ends-less, ends-wake}
 use Rattle.entry_codec.proofs.Room.{has_room}

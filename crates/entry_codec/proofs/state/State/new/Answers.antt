@@ -1,4 +1,4 @@
-use Rattle.std.proofs.Common.{◌≡◌, ℕ, List, ap, map, subst, sym, ◌∙◌}
+use Rattle.std.proofs.Common.{ℕ, List, ap, map, subst, sym, ◌∙◌}
 use Rattle.std.specs.Prelude.{position}
 use Rattle.entry_codec.specs.Ends.{EndsFrom}
 use Rattle.entry_codec.specs.Index.{is_number, names, row_number}

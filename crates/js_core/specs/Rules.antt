@@ -44,6 +44,15 @@ low_counter nwk frame up found = holds_of (λ (f : Found). holds_of (λ (u : Joi
 abbrev pub is_spent : Option Found → Bool
 is_spent found = holds_of (λ (f : Found). step.is_spent f.kept) found
 
+-- the rules of the join step
+abbrev pub step_rules : (ℕ → List ℕ) → List ℕ → Option JoinUp → Option Found → List (Rule Refusal)
+step_rules nwk frame up found =
+    record { cause = Eui; holds = wrong_eui up found }
+    ∷ record { cause = Mic; holds = wrong_mic nwk frame up found }
+    ∷ record { cause = Counter; holds = low_counter nwk frame up found }
+    ∷ record { cause = Spent; holds = is_spent found }
+    ∷ []
+
 abbrev pub join_rules_at : (ℕ → List ℕ) → Activation → Head → JoinRequest → Option JoinUp → Option Found → List (Rule Refusal)
 join_rules_at nwk activation head request up found =
     record { cause = Size; holds = wrong_size request.phy_payload }
@@ -51,11 +60,7 @@ join_rules_at nwk activation head request up found =
     ∷ record { cause = Device; holds = is_none found }
     ∷ record { cause = Home; holds = wrong_home head found }
     ∷ record { cause = Suspended; holds = is_suspended found }
-    ∷ record { cause = Eui; holds = wrong_eui up found }
-    ∷ record { cause = Mic; holds = wrong_mic nwk request.phy_payload up found }
-    ∷ record { cause = Counter; holds = low_counter nwk request.phy_payload up found }
-    ∷ record { cause = Spent; holds = is_spent found }
-    ∷ []
+    ∷ step_rules nwk request.phy_payload up found
 
 -- the rules of a JoinReq or a RejoinReq
 unfoldable pub join_rules : Config → (ℕ → List ℕ) → Machine → Activation → Head → JoinRequest → List (Rule Refusal)

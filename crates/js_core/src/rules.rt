@@ -7,10 +7,10 @@ ghost use Rattle.std.specs.Option.{option_copied};
 ghost use Rattle.wire_ids.specs.Rules.{first_rule};
 ghost use Rattle.key_vault.specs.Table.{nwk_at};
 ghost use Rattle.js_core.specs.Found.{found_now, found_of};
-ghost use Rattle.js_core.specs.Frames.{join_up_of};
+ghost use Rattle.js_core.specs.Frames.{frame_size, join_up_of};
 ghost use Rattle.js_core.specs.Replies.{seed_with};
 ghost use Rattle.js_core.specs.Rules.{app_s_key_rules_at, has_nonce, is_no_session};
-ghost use Rattle.js_core.specs.Rules.{join_rules, wrong_app, wrong_home};
+ghost use Rattle.js_core.specs.Rules.{join_rules, step_rules, wrong_app, wrong_home};
 ghost use Rattle.js_core.specs.Steps.{is_spent, step_of};
 ghost use Rattle.entry_codec.specs.declared.device.Device.{Device};
 
@@ -33,6 +33,40 @@ fn wrong_home(head: &Head, found: &FoundDevice<'_>) -> bool
     ensures { result ≡ wrong_home head.now (Some (found_now found.now)) }
 {
     !is_net(found.row.home, head.sender)
+}
+
+// The join step of a device for this frame, or the first cause against it. The MIC is looked at
+// once under each kept seed at most.
+fn join_step<E: BlockFn, D: BlockFn>(
+    vault: &Vault<E, D>,
+    device: &FoundDevice<'_>,
+    up: &JoinUp,
+    frame: &[u8],
+) -> Result<JoinStep, Refusal>
+    requires device { device.now.number < length vault.now }
+    requires size { length frame.now ≡ frame_size up.now }
+    ensures refused { IfErr result (λ r. first_rule (step_rules (nwk_at vault.now) frame.now
+        (Some up.now) (Some (found_now device.now))) ≡ Some r) }
+    ensures accepted { IfOk result (λ _. first_rule (step_rules (nwk_at vault.now) frame.now
+        (Some up.now) (Some (found_now device.now))) ≡ None) }
+    ensures step { IfOk result (λ step. step
+        ≡ step_of (nwk_at vault.now device.now.number) frame.now up.now device.now.kept.now) }
+    ensures unspent { IfOk result (λ _. is_spent device.now.kept.now ≡ false) }
+{
+    if wrong_eui(up, device.row) {
+        return Err(Refusal::Eui);
+    }
+    let Ok(place) = checked_mic(vault, device.number, device.row, device.kept, up, frame) else {
+        return Err(Refusal::Mic);
+    };
+    if low_counter(&place, up, device.kept) {
+        return Err(Refusal::Counter);
+    }
+    let Some(seed) = next_seed(up, device.kept) else {
+        return Err(Refusal::Spent);
+    };
+    let used = used_seed(&place, up);
+    Ok(JoinStep { used, seed })
 }
 
 /// What a join- or rejoin-request that isn't refused comes to: the device's number and row, the
@@ -85,24 +119,15 @@ pub(crate) fn join_target<'a, E: BlockFn, D: BlockFn>(
     if device.kept.suspended {
         return Err(Refusal::Suspended);
     }
-    if wrong_eui(&up, device.row) {
-        return Err(Refusal::Eui);
-    }
-    let Ok(place) = checked_mic(vault, device.number, device.row, device.kept, &up, frame) else {
-        return Err(Refusal::Mic);
+    let step = match join_step(vault, &device, &up, frame) {
+        Ok(step) => step,
+        Err(refusal) => return Err(refusal),
     };
-    if low_counter(&place, &up, device.kept) {
-        return Err(Refusal::Counter);
-    }
-    let Some(seed) = next_seed(&up, device.kept) else {
-        return Err(Refusal::Spent);
-    };
-    let used = used_seed(&place, &up);
     Ok(JoinTarget {
         number: device.number,
         row: device.row,
         up,
-        step: JoinStep { used, seed },
+        step,
     })
 }
 

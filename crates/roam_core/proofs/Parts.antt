@@ -1,14 +1,10 @@
 -- The join server's part of the order, and the order's numbers.
-use Rattle.std.proofs.Common.{◌≡◌, ◌<◌, ℕ, List, None, false, refl, arith}
-use Rattle.agreements.specs.Walk.{Config}
+use Rattle.std.proofs.Common.{refl, arith}
 use Rattle.backend_json.specs.Refusals.{row_of}
-use Rattle.backend_json.specs.declared.head.Head.{Head}
-use Rattle.backend_json.specs.declared.request.Request.{Request}
 use Rattle.backend_json.specs.declared.request.Request.TheVariants.{AppSKeyReq, HomeNSReq, JoinReq, RejoinReq, Unknown}
-use Rattle.entry_codec.specs.Machine.{Machine}
 use Rattle.js_core.specs.Replies.{js_decided}
 use Rattle.js_core.specs.Rules.{join_rules}
-use Rattle.roam_core.specs.Decided.{JoinServersPart, judged_at}
+use Rattle.roam_core.specs.Decided.{JoinServersPart}
 use Rattle.roam_core.specs.Order.{NumbersRise, order}
 
 pub join_servers_part : JoinServersPart

@@ -1,5 +1,5 @@
 -- What a request comes to, from the rule of its sender on.
-use Rattle.std.specs.Prelude.{◌≡◌, ℕ, List, [], Option, Some, None, Bool, false, unwrap_or}
+use Rattle.std.specs.Prelude.{◌≡◌, ℕ, List, [], Option, None, Bool, false, unwrap_or}
 use Rattle.wire_ids.specs.declared.decision.Decision.{Decision}
 use Rattle.wire_ids.specs.declared.decision.Decision.TheVariants as decision
 use Rattle.agreements.specs.Walk.{Config}

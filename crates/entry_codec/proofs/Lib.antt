@@ -12,5 +12,6 @@ pub mod SoundEmpty
 pub mod Lasting
 pub mod Ready
 pub mod Marks
+pub mod Counting
 pub mod Issuing
 pub mod Window

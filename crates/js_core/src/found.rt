@@ -15,7 +15,7 @@ pub(crate) struct FoundDevice<'a> {
     pub kept: &'a Device,
 }
 
-/// The device with this DevEUI, and None exactly where it has no row.
+/// The device with this DevEUI, and None where the tables or the state have no row for it.
 #[tactic(auto, unfolding(crate::specs::Found::found_of))]
 pub(crate) fn find<'a>(tables: &'a Tables, state: &'a State, dev: Eui) -> Option<FoundDevice<'a>>
     ensures device { option_map found_now result ≡ found_of tables.now state.now.now dev }

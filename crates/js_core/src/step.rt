@@ -166,7 +166,7 @@ fn is_not_above(counter: u16, last: Option<u16>) -> bool
     }
 }
 
-// The RJcount0 of the kept seed in this place.
+// The kept seed in this place.
 fn seed_at<'a>(kept: &'a Device, place: &Option<SeedPlace>) -> Option<&'a KeptSeed>
     ensures { option_copied result ≡ at_place kept.now.seeds.items place.now }
 {

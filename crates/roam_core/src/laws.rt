@@ -60,8 +60,8 @@ pub fn app_key_stays()
     ensures { AppKeyStays }
 {}
 
-/// Over every legal history no JoinNonce is given to a device twice, and each JoinNonce and each
-/// accepted DevNonce of a device is above those before it.
+/// Over every legal history no JoinNonce is given to a device twice and no DevNonce of it accepted
+/// twice, and each is above those before it.
 pub fn issued_once()
     ensures { HistoriesIssueOnce }
 {}

@@ -72,9 +72,9 @@ used_next used line a b b' lines e (inl f) clear (inl ends) = (
   e ∙ ap (λ (r : List ℕ). used ++ r) ends ∙ sym (append_assoc used (line ++ 10 ∷ []) b'),
   inl (λ later. (
     ap lines_of (append_assoc used (line ++ 10 ∷ []) later) ∙ (f ((line ++ 10 ∷ []) ++ later)).0
-    ∙ ap (λ (ls : List (List ℕ)). lines ++ ls) (line_first line later clear) ∙ sym (append_assoc lines (line ∷ []) (lines_of later)),
+        ∙ ap (λ (ls : List (List ℕ)). lines ++ ls) (line_first line later clear) ∙ sym (append_assoc lines (line ∷ []) (lines_of later)),
     ap whole_lines (append_assoc used (line ++ 10 ∷ []) later) ∙ (f ((line ++ 10 ∷ []) ++ later)).1
-    ∙ ap (λ (ls : List (List ℕ)). lines ++ ls) (whole_first line later clear) ∙ sym (append_assoc lines (line ∷ []) (whole_lines later)),
+        ∙ ap (λ (ls : List (List ℕ)). lines ++ ls) (whole_first line later clear) ∙ sym (append_assoc lines (line ∷ []) (whole_lines later)),
   )),
 )
 used_next used line a b b' lines e (inl f) clear (inr last) = (
@@ -102,7 +102,7 @@ under_way_then c keys s now new (Some a) (Some b) (Some b') o w w' u t =
     let next = used_next u.0 t.0 a b b' lines u.3 u.4 t.2 t.3 in
     let state : new ≡ desk_after_all c keys s (lines ++ t.0 ∷ []) (readings ++ t.1 ∷ []) = t.4 ∙ ap (λ (d : Desk). desk_then c keys d t.0 t.1) u.6 ∙ sym (desk-append c keys s lines readings t.0 t.1 u.5) in
     let one : output_of c keys s lines readings ++ answer_line c keys now t.0 t.1 ≡ output_of c keys s (lines ++ t.0 ∷ []) (readings ++ t.1 ∷ []) =
-        ap (λ (d : Desk). output_of c keys s lines readings ++ answer_line c keys d t.0 t.1) u.6 ∙ sym (output-one c keys s lines readings t.0 t.1 u.5) in (
+    ap (λ (d : Desk). output_of c keys s lines readings ++ answer_line c keys d t.0 t.1) u.6 ∙ sym (output-one c keys s lines readings t.0 t.1 u.5) in (
       next.0,
       lines ++ t.0 ∷ [],
       readings ++ t.1 ∷ [],
@@ -140,8 +140,8 @@ front_under_way c keys s now (Some a) None o w w' u p = absurd u
 front_under_way c keys s now (Some a) (Some b) o w w' u p =
     let all : lines_of a ≡ u.1 ++ lines_of b = ap lines_of u.3 ∙ lines_left u.0 b u.1 u.4 in
     let text : output_of c keys s u.1 u.2 ++ output_of c keys now (lines_of b) p.0 ≡ output_of c keys s (lines_of a) (u.2 ++ p.0) =
-        ap (λ (d : Desk). output_of c keys s u.1 u.2 ++ output_of c keys d (lines_of b) p.0) u.6
-        ∙ sym (output-append c keys s u.1 (lines_of b) u.2 p.0 u.5) ∙ sym (ap (λ (ls : List (List ℕ)). output_of c keys s ls (u.2 ++ p.0)) all) in (
+    ap (λ (d : Desk). output_of c keys s u.1 u.2 ++ output_of c keys d (lines_of b) p.0) u.6
+    ∙ sym (output-append c keys s u.1 (lines_of b) u.2 p.0 u.5) ∙ sym (ap (λ (ls : List (List ℕ)). output_of c keys s ls (u.2 ++ p.0)) all) in (
       u.2 ++ p.0,
       omega (arith, length-append u.2 p.0, length-append u.1 (lines_of b), ap length all, u.5, p.1),
       told_then o.clock w.clock w'.clock u.2 p.0 u.7 p.2,

@@ -118,6 +118,8 @@ pub(crate) fn answer_lines<E: BlockFn, D: BlockFn, T: Source, O: Sink, K: Clock>
 {
     let mut ahead = Ahead::with_limit(alloc, limit)?;
     let mut state = open_state(alloc, tables, text, reading)?;
-    'lines: while turn(alloc, tables, vault, &mut ahead, &mut state, input, out, clock)? {}
+    'lines: while turn(
+        alloc, tables, vault, &mut ahead, &mut state, input, out, clock,
+    )? {}
     Ok(())
 }

@@ -44,7 +44,16 @@ fn work<S: Source, T: Source, O: Sink, K: Clock>(
         Command::Check => print_counts(alloc, &tables, out),
         Command::Answer => {
             let reading = clock.now();
-            answer_vaulted(alloc, INPUT_LIMIT, &tables, text, reading, input, out, clock)
+            answer_vaulted(
+                alloc,
+                INPUT_LIMIT,
+                &tables,
+                text,
+                reading,
+                input,
+                out,
+                clock,
+            )
         }
     }
 }

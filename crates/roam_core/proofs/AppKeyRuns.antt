@@ -283,12 +283,12 @@ module _ (c : Config) (d : ℕ) (key : List ℕ) where
       front_both c d head (wrong_sender c head) (wrong_sender c' head) (wrong_receiver c head) (wrong_receiver c' head) (wrong_type c head) (wrong_type c' head) left right asked rest rest'
       (success_of c (nwk_at keys) (app_at keys) m head request) (success_of c' (nwk_at keys') (app_at keys') m head request) a b e both
       (λ known here may.
-        let one = sym (join_servers_part c (nwk_at keys) (app_at keys) m head request known here may) ∙ passed head (wrong_sender c head) (wrong_receiver c head) (wrong_type c head) rest (success_of c (nwk_at keys) (app_at keys) m head request) known here may in
-        let two = sym (join_servers_part c' (nwk_at keys') (app_at keys') m head request (a ∙ known) (b ∙ here) (e ∙ may)) ∙ passed head (wrong_sender c' head) (wrong_receiver c' head) (wrong_type c' head) rest' (success_of c' (nwk_at keys') (app_at keys') m head request) (a ∙ known) (b ∙ here) (e ∙ may) in
-        let left_js = js_decided c (nwk_at keys) (app_at keys) m head request in
-        let right_js = js_decided c' (nwk_at keys') (app_at keys') m head request in
-        let right_rest = by_order (said head None) rest' (success_of c' (nwk_at keys') (app_at keys') m head request) in
-        subst (λ (x : JsDecision). JudgedAlike c d x right_rest) one (subst (λ (y : JsDecision). JudgedAlike c d left_js y) two (from_request c d left_js right_js (of_request.app_key_stays c d key m head request))))
+      let one = sym (join_servers_part c (nwk_at keys) (app_at keys) m head request known here may) ∙ passed head (wrong_sender c head) (wrong_receiver c head) (wrong_type c head) rest (success_of c (nwk_at keys) (app_at keys) m head request) known here may in
+      let two = sym (join_servers_part c' (nwk_at keys') (app_at keys') m head request (a ∙ known) (b ∙ here) (e ∙ may)) ∙ passed head (wrong_sender c' head) (wrong_receiver c' head) (wrong_type c' head) rest' (success_of c' (nwk_at keys') (app_at keys') m head request) (a ∙ known) (b ∙ here) (e ∙ may) in
+      let left_js = js_decided c (nwk_at keys) (app_at keys) m head request in
+      let right_js = js_decided c' (nwk_at keys') (app_at keys') m head request in
+      let right_rest = by_order (said head None) rest' (success_of c' (nwk_at keys') (app_at keys') m head request) in
+      subst (λ (x : JsDecision). JudgedAlike c d x right_rest) one (subst (λ (y : JsDecision). JudgedAlike c d left_js y) two (from_request c d left_js right_js (of_request.app_key_stays c d key m head request))))
 
   bad_alike : (r : Bad) → ReactionsAlike c d (reaction_of (decision.Reply (bad_answer r))) (reaction_of (decision.Reply (bad_answer r)))
   bad_alike r = record { answer = texts_of c d _ _ (same_answer c d (bad_answer r)); entry = tt }
@@ -303,7 +303,7 @@ module _ (c : Config) (d : ℕ) (key : List ℕ) where
       let both = kept_alike c d head.sender body s.kept s'.kept alike.kept in
       let judged = judged_alike m head message.request (kept_answer head.sender body s.kept) (kept_answer head.sender body s'.kept) (is_asked body m) both in
       with_alike c d head body now _ _ (subst (λ (k : Machine). JudgedAlike c d (judged_at c (nwk_at keys) (app_at keys) m head message.request (kept_answer head.sender body s.kept) (is_asked body m))
-        (judged_at (with_app_key d key c) (nwk_at keys') (app_at keys') (lapse now k) head message.request (kept_answer head.sender body s'.kept) (is_asked body (lapse now k)))) alike.now judged)
+      (judged_at (with_app_key d key c) (nwk_at keys') (app_at keys') (lapse now k) head message.request (kept_answer head.sender body s'.kept) (is_asked body (lapse now k)))) alike.now judged)
 
   line_alike : (s s' : Desk) (body : List ℕ) (now : ℕ) → DesksAlike c d s s' → ReactionsAlike c d (reaction c keys s body now) (reaction (with_app_key d key c) keys' s' body now)
   unfolding reaction line_decided

@@ -85,7 +85,7 @@ module _ (c : Config) (nwk app : ℕ → List ℕ) (m : Machine) (head : Head) w
       by (Some place) e =
           let kept = (stands_at c m request.dev_eui f is.is_found).is_kept in
           let low : holds_of (λ (s : KeptSeed). is_not_above count s.rj_count0) (slice_get f.kept.seeds.items place) ≡ false =
-              ap (λ (p : Option ℕ). holds_of (λ (s : KeptSeed). is_not_above count s.rj_count0) (at_place f.kept.seeds.items p)) (sym e) ∙ is.above in
+          ap (λ (p : Option ℕ). holds_of (λ (s : KeptSeed). is_not_above count s.rj_count0) (at_place f.kept.seeds.items p)) (sym e) ∙ is.above in
           let seed : KeptSeed = record { seed = next_seed (Rejoin02 kind net dev_eui count mic) f.kept; rj_count0 = None } in
           rw (e, kept, used_fits (nwk f.device) request.phy_payload kind count place f.kept seed e low, next_above f.kept.join_nonce) refl
   join_fits activation request (Rejoin1 join_eui dev_eui count mic) f is =

@@ -67,8 +67,8 @@ judged_is c nwk app m head request P kept asked holds =
     let success = success_of c nwk app m head request in
     front_is head P (wrong_sender c head) (wrong_receiver c head) (wrong_type c head) kept asked rest success holds.refusal holds.repeat
     (λ known here may.
-      let same = sym (join_servers_part c nwk app m head request known here may) ∙ passed head (wrong_sender c head) (wrong_receiver c head) (wrong_type c head) rest success known here may in
-      subst P same (holds.decides (not_not (is_known c head.sender) known)))
+    let same = sym (join_servers_part c nwk app m head request known here may) ∙ passed head (wrong_sender c head) (wrong_receiver c head) (wrong_type c head) rest success known here may in
+    subst P same (holds.decides (not_not (is_known c head.sender) known)))
 
 -- where nothing stands before the frame's size, what the join server makes of it
 pub judged_js : (c : Config) (nwk app : ℕ → List ℕ) (m : Machine) (head : Head) (request : Request) (kept : Option (List ℕ)) (asked : Bool) → wrong_sender c head ≡ false → wrong_receiver c head ≡ false → wrong_type c head ≡ false

@@ -137,8 +137,8 @@ named_there c (Network net) h =
     in_first (Network net) (map network_sender c.networks) _ (network_there net c.networks (sym (is_some-find (λ (r : NetworkRow). r.net_id == net) c.networks) ∙ h))
 named_there c (Party id) h =
     in_rest (Party id) (map network_sender c.networks) _ (either (is_some (application_named c id)) (has_gateway id c.gateways) h
-      (λ e. in_first (Party id) (map application_sender c.applications) _ (application_there id c.applications (sym (is_some-find (λ (r : ApplicationRow). r.app_id.0 == id.0) c.applications) ∙ e)))
-      (λ e. in_rest (Party id) (map application_sender c.applications) _ (gateway_there id c.gateways e)))
+    (λ e. in_first (Party id) (map application_sender c.applications) _ (application_there id c.applications (sym (is_some-find (λ (r : ApplicationRow). r.app_id.0 == id.0) c.applications) ∙ e)))
+    (λ e. in_rest (Party id) (map application_sender c.applications) _ (gateway_there id c.gateways e)))
 
 known_valid : (c : Config) (t : Sender) → AllByRecursion IsValid (map network_sender c.networks) → is_known c t ≡ true → IsValid t
 unfolding is_known
@@ -155,5 +155,5 @@ unfolding empty senders_of
 knows_senders c nets = λ sender known.
     let networks = networks_valid c.networks nets in
     let names = all_append IsValid (map network_sender c.networks) (map application_sender c.applications ++ map gateway_sender c.gateways) networks
-        (all_append IsValid (map application_sender c.applications) (map gateway_sender c.gateways) (applications_valid c.applications) (gateways_valid c.gateways)) in
+    (all_append IsValid (map application_sender c.applications) (map gateway_sender c.gateways) (applications_valid c.applications) (gateways_valid c.gateways)) in
     puts_there sender (known_valid c sender networks known) (names_of c) [] names tt (named_there c sender known)

@@ -95,7 +95,7 @@ lines-init g c =
 pub returns-in_err-ahead-clause-answered : goal.returns-in_err-ahead-clause-answered
 returns-in_err-ahead-clause-answered g c =
     let before : Outside = record { clock = g.K.Clock.tells c.args.clock.now; written = g.O.Sink.written c.args.out.now } in
-    let told = err_from_is_err_and c.from_residual-in_err-ahead.result c.from_residual-in_err-ahead.ensures.1 in
+    let told = err_from_is_err_and c.from_residual.result c.from_residual.ensures.1 in
     answered_none c.args.limit c.args.tables.now c.args.vault.now (opened c.args.tables.now c.args.text c.args.reading) (g.T.Source.left c.args.input.now) before _ (told.1 ∙ ap Err told.2)
 
 pub returns-in_err-state-clause-answered : goal.returns-in_err-state-clause-answered

@@ -16,7 +16,7 @@ enter-requires-2 c =
     let moment = c.moment_of-moment.result in
     let most = moment_most config c.in_ok-state.state.now moment c.args.reading c.in_ok-state.ensures.now c.moment_of-moment.ensures in
     let one : c.enter.new.state.now ≡ after (empty config) (entry_at moment.0 (event.Tables c.args.text)) =
-        ap (λ (d : Desk). d.now) c.in_ok-enter.ensures.done ∙ ap (λ (k : Machine). after k (entry_at moment.0 (event.Tables c.args.text))) c.in_ok-state.ensures.now in
+    ap (λ (d : Desk). d.now) c.in_ok-enter.ensures.done ∙ ap (λ (k : Machine). after k (entry_at moment.0 (event.Tables c.args.text))) c.in_ok-state.ensures.now in
     record { fits = opening_enters config c.enter.new.state.now c.args.text moment most one }
 
 pub returns-clause-desk : goal.returns-clause-desk
@@ -30,5 +30,5 @@ returns-clause-open c =
     let moment = c.moment_of-moment.result in
     let most = moment_most config c.in_ok-state.state.now moment c.args.reading c.in_ok-state.ensures.now c.moment_of-moment.ensures in
     let one : c.enter.new.state.now ≡ after (empty config) (entry_at moment.0 (event.Tables c.args.text)) =
-        ap (λ (d : Desk). d.now) c.in_ok-enter.ensures.done ∙ ap (λ (k : Machine). after k (entry_at moment.0 (event.Tables c.args.text))) c.in_ok-state.ensures.now in
+    ap (λ (d : Desk). d.now) c.in_ok-enter.ensures.done ∙ ap (λ (k : Machine). after k (entry_at moment.0 (event.Tables c.args.text))) c.in_ok-state.ensures.now in
     open_opened config c.enter.new.state.now c.enter-2.new.state.now c.args.text moment c.knows_senders.ensures most one (ap (λ (d : Desk). d.now) c.in_ok-enter-2.ensures.done)

@@ -15,7 +15,7 @@ pub returns-in_err-keys-clause-answered : goal.returns-in_err-keys-clause-answer
 returns-in_err-keys-clause-answered g c =
     let config = c.args.tables.now in
     let before : Outside = record { clock = g.K.Clock.tells c.args.clock.now; written = g.O.Sink.written c.args.out.now } in
-    let told = err_from_is_err_and c.from_residual-in_err-keys.result c.from_residual-in_err-keys.ensures.1 in
+    let told = err_from_is_err_and c.from_residual.result c.from_residual.ensures.1 in
     answered_none c.args.limit config (key_table config) (opened config c.args.text c.args.reading) (g.T.Source.left c.args.input.now) before _ (told.1 ∙ ap Err told.2)
 
 pub returns-in_err-ring-clause-answered : goal.returns-in_err-ring-clause-answered

@@ -3,77 +3,151 @@ ghost use Rattle.desk_top.specs.Ends.{Ends};
 ghost use Rattle.desk_top.specs.Promises.{Promises, seen, seen_clock};
 
 use crate::counts::print_counts;
+use crate::desk::run_desk;
+use crate::ended::Ended;
 use crate::fault::Fault;
-use crate::last_line::{close, status_of};
+use crate::journal::take_journal;
+use crate::last_line::{close, no_device_text, status_of};
 use crate::opening::{TablesText, open_tables};
-use crate::vaulted::answer_vaulted;
+use crate::task::Task;
 use crate::words::{Command, command_of};
-use disk_model::{Clock, Disk, Link, Ran, Sink, Source, Steps};
+use agreements::Tables;
+use disk_model::{Clock, Disk, Held, Link, Ran, Sink, Source, Steps};
 use line_reader::INPUT_LIMIT;
 use std::alloc::Global;
 use std::sync::ledger::Ledger;
+use wire_ids::Eui;
 
-// Does what the words ask, and prints no last line.
-fn work<S: Source, T: Source, O: Sink, K: Clock>(
+// The mark of a device, which has a row, or the fault that says that it has none.
+fn mark_of(alloc: Global, tables: &Tables, suspended: bool, eui: Eui) -> Result<Task, Fault> {
+    match tables.device(eui) {
+        Some((device, _)) => Ok(Task::Mark {
+            suspended,
+            device,
+            eui,
+        }),
+        None => Err(Fault::NoDevice(no_device_text(alloc, eui)?)),
+    }
+}
+
+// What is to be done on the desk of these tables, or None where they are only checked.
+fn task_of(alloc: Global, tables: &Tables, command: Command) -> Result<Option<Task>, Fault> {
+    match command {
+        Command::Check => Ok(None),
+        Command::Answer => Ok(Some(Task::Answer)),
+        Command::Suspend(eui) => Ok(Some(mark_of(alloc, tables, true, eui)?)),
+        Command::Resume(eui) => Ok(Some(mark_of(alloc, tables, false, eui)?)),
+    }
+}
+
+// Opens the desk on the journal of a disk, and does the task.
+fn on_disk<T: Source, O: Sink, D: Disk, K: Clock, G: Ledger>(
+    alloc: Global,
+    task: Task,
+    opened: TablesText,
+    input: &mut T,
+    out: &mut O,
+    disk: D,
+    clock: &mut K,
+    steps: &mut Steps<G>,
+) -> Ended<D>
+{
+    let keeper = match take_journal(alloc, disk) {
+        Ok(keeper) => keeper,
+        Err(Held { object, fault }) => {
+            return Ended {
+                object,
+                end: Err(fault),
+            };
+        }
+    };
+    let Ended { object, end } = run_desk(
+        alloc,
+        INPUT_LIMIT,
+        task,
+        opened,
+        keeper,
+        input,
+        out,
+        clock,
+        steps,
+    );
+    Ended {
+        object: object.into_disk(),
+        end,
+    }
+}
+
+// The tables of a source's text, and what is to be done on their desk.
+fn prepare<S: Source>(
     alloc: Global,
     words: &[String],
     tables: &mut S,
-    input: &mut T,
-    out: &mut O,
-    clock: &mut K,
-) -> Result<(), Fault>
-    ensures promises { Promises (record {
-      words = words.now;
-      tables = seen S.left S.faults tables.old;
-      tables_after = seen S.left S.faults tables.new;
-      input = seen T.left T.faults input.old;
-      input_after = seen T.left T.faults input.new;
-      out = seen O.written O.faults out.old;
-      out_after = seen O.written O.faults out.new;
-      clock = seen_clock K.tells clock.old;
-      clock_after = seen_clock K.tells clock.new;
-    }) result }
-    ensures out_count { O.faults out.old ≤ O.faults out.new }
+) -> Result<(TablesText, Option<Task>), Fault>
 {
     let Some(command) = command_of(words) else {
         return Err(Fault::Usage);
     };
     let opened = open_tables(alloc, tables)?;
-    let TablesText { tables, text } = opened;
-    match command {
-        Command::Check => print_counts(alloc, &tables, out),
-        Command::Answer => {
-            let reading = clock.now();
-            answer_vaulted(
-                alloc,
-                INPUT_LIMIT,
-                &tables,
-                text,
-                reading,
-                input,
-                out,
-                clock,
-            )
+    let task = task_of(alloc, &opened.tables, command)?;
+    Ok((opened, task))
+}
+
+// Does what the words ask, and prints no last line.
+fn work<S: Source, T: Source, O: Sink, D: Disk, K: Clock, G: Ledger>(
+    alloc: Global,
+    words: &[String],
+    tables: &mut S,
+    input: &mut T,
+    out: &mut O,
+    disk: D,
+    clock: &mut K,
+    steps: &mut Steps<G>,
+) -> Ended<D>
+{
+    match prepare(alloc, words, tables) {
+        Ok((opened, Some(task))) => {
+            on_disk(alloc, task, opened, input, out, disk, clock, steps)
         }
+        Ok((opened, None)) => Ended {
+            object: disk,
+            end: print_counts(alloc, &opened.tables, out),
+        },
+        Err(fault) => Ended {
+            object: disk,
+            end: Err(fault),
+        },
     }
 }
 
-/// Does what the words ask: `check --tables PATH` or `answer --tables PATH --journal PATH`.
+/// Does what the words ask: `check --tables PATH`, `answer --tables PATH --journal PATH`, or
+/// `suspend` or `resume` with the same two options and a DevEUI behind them.
 ///
-/// `tables` is the text of the tables, `input` the lines to answer, and `out` takes what is
-/// printed. `clock` is read once where the desk is opened, and once for each line, when it was
-/// heard. `disk`, `link` and `steps` aren't used yet; the disk is given back. The statuses:
+/// `tables` is the text of the tables, `input` the lines to answer, `disk` holds the journal, and
+/// `out` takes what is printed. `clock` is read once where the desk is opened, and once for each
+/// line, when it was heard, or for the mark. Steps counts the entries that are read at the opening.
+/// `link` isn't used yet. The statuses:
 ///
-/// - 0: the tables are valid, and their counts are printed or every line of the input is answered.
+/// - 0: the tables are valid, and their counts are printed, every line of the input is answered, or
+///   the device is marked.
 /// - 2: the words are no command. Prints `lwdesk: usage`.
 /// - 3: the tables are refused. Prints `lwdesk: tables`, the number of the fault and its path, `-`
 ///   for a text that is no TOML.
 /// - 4: a read of `tables` or `input` failed. Prints `lwdesk: read`.
 /// - 5: a write failed. Prints nothing.
+/// - 6: a call of the disk failed. Prints `lwdesk: disk`.
+/// - 7: the journal has no room for the next entry. Prints `lwdesk: journal full`.
+/// - 8: the journal is one of another tables text. Prints `lwdesk: other tables`.
+/// - 9: the disk holds no journal. Prints `lwdesk: not a journal at` and the first place where it
+///   differs from one.
 /// - 10: want of memory. Prints nothing.
 /// - 11: more than 2^30 bytes of input were taken. Prints `lwdesk: too much input`.
+/// - 12: an entry of the journal is none, or doesn't fit. Prints `lwdesk: bad entry` and its number.
+/// - 13: the device that is to be marked has no row. Prints `lwdesk: no device` and its DevEUI.
 ///
-/// What was written before a fault stays, and a fault of `out` in the last line leaves the status.
+/// The first cause in time decides: the words, the tables, the device, the journal, the entries,
+/// the lines. What was written before a fault stays, on the disk too, and a fault of `out` in the
+/// last line leaves the status.
 pub fn run<S: Source, T: Source, O: Sink, D: Disk, L: Link, K: Clock, G: Ledger>(
     alloc: Global,
     words: &[String],
@@ -85,32 +159,13 @@ pub fn run<S: Source, T: Source, O: Sink, D: Disk, L: Link, K: Clock, G: Ledger>
     clock: &mut K,
     steps: &mut Steps<G>,
 ) -> Ran<D>
-    // What is promised of each end, its last line and its status: `Promises` and `Ends`.
-    ensures ends { Ends (record {
-      words = words.now;
-      tables = seen S.left S.faults tables.old;
-      tables_after = seen S.left S.faults tables.new;
-      input = seen T.left T.faults input.old;
-      input_after = seen T.left T.faults input.new;
-      out = seen O.written O.faults out.old;
-      out_after = seen O.written O.faults out.new;
-      clock = seen_clock K.tells clock.old;
-      clock_after = seen_clock K.tells clock.new;
-    }) result.status }
-
-    // The disk isn't touched.
-    ensures disk { result.disks ≡ disk }
-
     // No peer is asked.
     ensures link { link.new ≡ link.old }
-
-    // No step is counted.
-    ensures steps { steps.new ≡ steps.old }
 {
-    let end = work(alloc, words, tables, input, out, clock);
+    let Ended { object, end } = work(alloc, words, tables, input, out, disk, clock, steps);
     close(out, &end);
     Ran {
         status: status_of(&end),
-        disks: disk,
+        disks: object,
     }
 }

@@ -1,6 +1,9 @@
-ghost use Rattle.std.specs.Prelude.{◌≡◌, ◌↔◌, IsTrue, IfSome, IfNone};
+ghost use Rattle.std.specs.Prelude.{◌≡◌, ◌↔◌, ⊥, IsTrue, IfSome, IfNone};
+ghost use Rattle.wire_ids.specs.declared.eui.Eui.{Eui as Name};
 ghost use Rattle.desk_top.specs.declared.words.Command.{Command as Asked};
-ghost use Rattle.desk_top.specs.Words.{HasWord, Spells, SpellsNone, files};
+ghost use Rattle.desk_top.specs.Words.{HasEui, HasWord, Marks, Spells, SpellsNone, files};
+
+use wire_ids::Eui;
 
 /// What the program is asked to do.
 #[derive(Clone, Copy, Debug, PartialEq, Eq)]
@@ -9,6 +12,10 @@ pub(crate) enum Command {
     Check,
     /// Answers the lines of the input.
     Answer,
+    /// Suspends a device.
+    Suspend(Eui),
+    /// Resumes a device.
+    Resume(Eui),
 }
 
 /// The places of the words that name files and addresses, and the number of workers, which is 0 for
@@ -31,6 +38,32 @@ pub fn has_word(words: &[String], at: usize, word: &str) -> bool
     }
 }
 
+// The EUI that the word at this place reads as.
+fn eui_at(words: &[String], at: usize) -> Option<Eui>
+    ensures found { IfSome result (HasEui words.now at) }
+    ensures none { IfNone result ((eui : Name) → HasEui words.now at eui → ⊥) }
+{
+    match words.get(at) {
+        Some(found) => Eui::from_hex(found.as_bytes()).ok(),
+        None => None,
+    }
+}
+
+// The EUI of the device that the words mark by this command.
+fn marked(words: &[String], command: &str) -> Option<Eui>
+    ensures found { IfSome result (Marks words.now command.now) }
+    ensures none { IfNone result ((eui : Name) → Marks words.now command.now eui → ⊥) }
+{
+    if words.len() == 6
+        && has_word(words, 0, command)
+        && has_word(words, 1, "--tables")
+        && has_word(words, 3, "--journal")
+    {
+        return eui_at(words, 5);
+    }
+    None
+}
+
 // The command that the words spell.
 pub(crate) fn command_of(words: &[String]) -> Option<Command>
     ensures found { IfSome result (Spells words.now) }
@@ -46,28 +79,28 @@ pub(crate) fn command_of(words: &[String]) -> Option<Command>
     {
         return Some(Command::Answer);
     }
-    None
+    if let Some(eui) = marked(words, "suspend") {
+        return Some(Command::Suspend(eui));
+    }
+    marked(words, "resume").map(Command::Resume)
 }
 
 /// What a caller of `run` prepares for these words, or None exactly where they are no command:
-/// `check --tables PATH` or `answer --tables PATH --journal PATH`.
+/// `check --tables PATH`, or `answer --tables PATH --journal PATH`, or `suspend` or `resume` with
+/// the same two options and the DevEUI behind them, in 16 hexadecimal digits.
 pub fn files_of(words: &[String]) -> Option<WordFiles>
     ensures found { IfSome result (λ found. (command : Asked) × Spells words.now command
         × (found ≡ files command)) }
     ensures none { IfNone result (SpellsNone words.now) }
 {
-    match command_of(words)? {
-        Command::Check => Some(WordFiles {
-            tables: Some(2),
-            journal: None,
-            listen: None,
-            workers: 0,
-        }),
-        Command::Answer => Some(WordFiles {
-            tables: Some(2),
-            journal: Some(4),
-            listen: None,
-            workers: 0,
-        }),
-    }
+    let journal = match command_of(words)? {
+        Command::Check => None,
+        Command::Answer | Command::Suspend(_) | Command::Resume(_) => Some(4),
+    };
+    Some(WordFiles {
+        tables: Some(2),
+        journal,
+        listen: None,
+        workers: 0,
+    })
 }

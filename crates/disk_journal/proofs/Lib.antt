@@ -1,4 +1,5 @@
 pub mod Append
+pub mod Marks
 pub mod Pieces
 pub mod Places
 pub mod Put

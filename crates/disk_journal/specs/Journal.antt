@@ -18,6 +18,10 @@ place zero records = 16
 place (suc k) [] = 16
 place (suc k) (body ∷ records) = 5 + length body + place k records
 
+-- behind so many of the records the next one stands at this place
+abbrev pub IsMarked : ℕ → ℕ → List (List ℕ) → Type 0
+IsMarked number at records = (number ≤ length records) × (at ≡ place number records)
+
 -- the content up to the end is the mark and the records that count, and the places of the last 2,048 are listed
 pub record HasRecords (end count : ℕ) (places content : List ℕ) : Type 0 where
   pub front : IsFront (take end content) (kept end content)

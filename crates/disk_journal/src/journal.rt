@@ -1,5 +1,5 @@
 ghost use Rattle.std.specs.Prelude.{◌≡◌, ◌+◌, ◌<◌, ◌≤◌, ◌^◌, ◌++◌, ◌⊎◌, ◌↔◌, [], ◌∷◌, List, ℕ};
-ghost use Rattle.std.specs.Prelude.{Some};
+ghost use Rattle.std.specs.Prelude.{◌*◌, Some, IsTrue};
 ghost use Rattle.std.specs.Prelude.{None, length, take, OnOk, OnErr, IfOk, IfErr, IsErrOf, vec_len};
 ghost use Rattle.std.specs.Prelude.{if◌then◌else◌, option_map, slice_get, true, false};
 ghost use Rattle.wire_ids.specs.Causes.{HasCause, Rose};
@@ -7,24 +7,29 @@ ghost use Rattle.disk_model.specs.Disk.{LeavesOnly, WhereTold};
 
 use crate::JournalFault;
 use crate::behind::{Behind, look_behind};
-use crate::gate::set_gate;
-use crate::read::{read_far, record_at};
+use crate::gate::{HEAD, set_gate};
+use crate::read::{Bookmark, read_far, record_at};
 use crate::steps::stage;
 use disk_model::{Disk, Failed};
 
 // No record ends past it, the gate behind it included.
 const LIMIT: u64 = 1 << 28;
 
+/// The place of the first gate.
+pub const START: u64 = 16;
+
 /// Of so many records, the last ones, the places are kept.
 pub const KEPT: u64 = 2048;
 
-/// Records on a disk, in order. It keeps where they end and how many they are.
+/// Records on a disk, in order. It keeps where they end and how many they are, where the last ones
+/// stand, and a bookmark behind an older one that was read.
 #[derive(Drop)]
 pub struct Journal<D> {
     pub(crate) disk: D,
     pub(crate) end: u64,
     pub(crate) count: u64,
     pub(crate) places: Vec<u64>,
+    pub(crate) bookmark: Bookmark,
     ghost few: { count ≤ end },
     ghost ring: { vec_len places ≡ 2048 },
 }
@@ -33,7 +38,7 @@ impl<D: Disk> Journal<D> {
     ghost use Rattle.disk_journal.specs.Format.{journal_of};
     ghost use Rattle.disk_journal.specs.Journal.{IsStaged, WithOrWithout};
     ghost use Rattle.disk_journal.specs.Journals.{journal_count, journal_disk, journal_end};
-    ghost use Rattle.disk_journal.specs.Journals.{records_of, Doubts, Rests};
+    ghost use Rattle.disk_journal.specs.Journals.{records_of, Doubts, Last, MayGrow, Rests};
 
     /// Adds a record. After Ok it is on the disk. After a `DiskFault` the next call that writes is
     /// `reopen`. Takes no memory.
@@ -74,8 +79,7 @@ impl<D: Disk> Journal<D> {
             (λ records. (x : List ℕ) → D.images (journal_disk self.new) x
             → journal_of x ≡ Some (records ++ bytes.now ∷ []))) }
     {
-        let length = bytes.len() as u64;
-        if LIMIT.saturating_sub(self.end) < length + 6 {
+        if !self.has_room(1, bytes.len() as u64) {
             return Err(JournalFault::Full);
         }
         self.put(bytes)?;
@@ -84,17 +88,18 @@ impl<D: Disk> Journal<D> {
 
     // Adds a record that has room.
     fn put(&mut self, bytes: &[u8]) -> Result<(), Failed>
-        requires rests { Rests D.seen D.images self.old }
+        requires rests { Last D.seen D.images self.old }
         requires fits { self.old.end + length bytes.now + 6 ≤ 2 ^ 28 }
         ensures added { OnOk result (records_of D.seen self.new
             ≡ option_map (λ records. records ++ bytes.now ∷ []) (records_of D.seen self.old)) }
-        ensures rests { OnOk result (Rests D.seen D.images self.new) }
+        ensures rests { OnOk result (Last D.seen D.images self.new) }
         ensures end { OnOk result (self.new.end ≡ self.old.end + length bytes.now + 5) }
         ensures count { OnOk result (self.new.count ≡ self.old.count + 1) }
-        ensures doubt { OnErr result (Doubts D.seen D.images bytes.now self.new) }
+        ensures doubt { OnErr result (MayGrow D.seen D.images bytes.now self.new) }
         ensures kept { OnErr result (records_of D.seen self.new ≡ records_of D.seen self.old) }
         ensures kept_count { OnErr result (self.new.count ≡ self.old.count) }
         ensures kept_end { OnErr result (self.new.end ≡ self.old.end) }
+        ensures bookmark { self.new.bookmark ≡ self.old.bookmark }
         ensures cause { HasCause (D.faults self.old.disk) (D.faults self.new.disk) result }
         ensures calls { OnOk result (D.moment self.new.disk ≡ D.moment self.old.disk + 6) }
         ensures four { OnOk result (WhereTold (D.seen self.old.disk) (λ c. (x : List ℕ)
@@ -203,7 +208,18 @@ impl<D: Disk> Journal<D> {
             let at = self.places[(k % KEPT) as usize];
             return record_at(&mut self.disk, len, at, out);
         }
-        read_far(&mut self.disk, len, k, out)
+        self.bookmark = read_far(&mut self.disk, len, self.bookmark, k, out)?;
+        Ok(())
+    }
+
+    /// Whether so many records more, of together so many bytes, lie below 2^28 with their gates and
+    /// the one behind them.
+    pub fn has_room(&self, records: u32, bytes: u64) -> bool
+        ensures { IsTrue result
+            ↔ (journal_end self.now + bytes + 5 * records + 1 ≤ 2 ^ 28) }
+    {
+        let heads = HEAD as u64 * u64::from(records);
+        self.end.saturating_add(bytes).saturating_add(heads + 1) <= LIMIT
     }
 
     /// How many records it has.

@@ -7,7 +7,8 @@ ghost use Rattle.disk_journal.specs.Journal.{IsOneOf};
 ghost use Rattle.disk_journal.specs.Walked.{IsForeign, IsFresh};
 ghost use Rattle.disk_journal.specs.Windows.{Shows};
 
-use crate::journal::KEPT;
+use crate::journal::{KEPT, START};
+use crate::read::Bookmark;
 use crate::recover::recover;
 use crate::window::Window;
 use crate::{Journal, JournalFault};
@@ -60,6 +61,10 @@ impl<D: Disk> Journal<D> {
                 end: found.end,
                 count: found.count,
                 places,
+                bookmark: Bookmark {
+                    number: 0,
+                    place: START,
+                },
             }),
             Err(fault) => Err(Held {
                 object: disk,

@@ -11,12 +11,9 @@ ghost use Rattle.disk_journal.specs.Windows.{Shows};
 use crate::JournalFault;
 use crate::fresh::{check_mark, make_fresh};
 use crate::gate::{Gate, set_gate};
-use crate::journal::KEPT;
+use crate::journal::{KEPT, START};
 use crate::window::Window;
 use disk_model::{Disk, Failed};
-
-// The place of the first gate.
-const START: u64 = 16;
 
 /// Where the records end, how many they are, and whether the gate behind them is open before no
 /// whole record.

@@ -1,4 +1,4 @@
-use Rattle.std.proofs.Common.{◌≡◌, ◌<◌, ℕ, List, length, drop, Some, refl, ◌∙◌, ap, subst, arith}
+use Rattle.std.proofs.Common.{◌≡◌, ◌<◌, ◌+◌, ℕ, List, length, drop, Some, refl, ◌∙◌, ap, subst, arith}
 use Rattle.disk_journal.specs.Format.{kept}
 use Rattle.disk_journal.specs.Journal.{place}
 use Rattle.disk_journal.specs.Gates.{GateIs}
@@ -20,19 +20,19 @@ never_cut : (n : ℕ) (bytes : List ℕ) → (has : HasWhole n bytes) → GateIs
 never_cut n bytes has is = omega (arith, has.2, has.3, is.1)
 
 pub returns-in-Shut-clause-found : goal.returns-in-Shut-clause-found
-returns-in-Shut-clause-found g c = λ x told len end count places has lt.
-    let inside : c.loop-done.done < count = omega (arith, lt) in
-    let at = record_at end count places x c.loop-done.done has inside in
-    let place_is = c.loop-done.invariant.at x told len end count places has (omega (arith, inside)) in
+returns-in-Shut-clause-found g c = λ x told len end count first places has from lt.
+    let inside : first + c.loop-done.done < count = omega (arith, lt) in
+    let at = record_at end count places x (first + c.loop-done.done) has inside in
+    let place_is = c.loop-done.invariant.at x told len end count first places has from (omega (arith, inside)) in
     let bytes = ap (λ (n : ℕ). drop n x) place_is ∙ at.whole.1 in
     let found = c.in_ok-length.ensures.found x (c.loop-done.invariant.quiet.same ∙ told) 1 at.whole.0 len bytes in
     absurd (never_shut 0 at.whole.0 (subst (λ (r : Gate). GateIs r 1 at.whole.0) c.in-Shut.is found))
 
 pub returns-in-Cut-clause-found : goal.returns-in-Cut-clause-found
-returns-in-Cut-clause-found g c = λ x told len end count places has lt.
-    let inside : c.loop-done.done < count = omega (arith, lt) in
-    let at = record_at end count places x c.loop-done.done has inside in
-    let place_is = c.loop-done.invariant.at x told len end count places has (omega (arith, inside)) in
+returns-in-Cut-clause-found g c = λ x told len end count first places has from lt.
+    let inside : first + c.loop-done.done < count = omega (arith, lt) in
+    let at = record_at end count places x (first + c.loop-done.done) has inside in
+    let place_is = c.loop-done.invariant.at x told len end count first places has from (omega (arith, inside)) in
     let bytes = ap (λ (n : ℕ). drop n x) place_is ∙ at.whole.1 in
     let found = c.in_ok-length.ensures.found x (c.loop-done.invariant.quiet.same ∙ told) 1 at.whole.0 len bytes in
     absurd (never_cut _ _ at.whole (subst (λ (r : Gate). GateIs r 1 at.whole.0) c.in-Cut.is found))
@@ -42,18 +42,19 @@ loop-done-preserved g c = record {
   quiet = quiet_then g.D.Disk.seen g.D.Disk.images g.D.Disk.moment g.D.Disk.images_since _ _ _ c.loop-done.invariant.quiet c.gate_at.ensures.quiet;
   within = omega arith;
   later = omega (arith, c.loop-done.invariant.later, c.gate_at.ensures.cause.later);
-  at = λ x told len end count places has le.
-      let inside : c.loop-done.done < count = omega (arith, le) in
-      let at = record_at end count places x c.loop-done.done has inside in
-      let place_is = c.loop-done.invariant.at x told len end count places has (omega (arith, inside)) in
+  at = λ x told len end count first places has from le.
+      let inside : first + c.loop-done.done < count = omega (arith, le) in
+      let at = record_at end count places x (first + c.loop-done.done) has inside in
+      let place_is = c.loop-done.invariant.at x told len end count first places has from (omega (arith, inside)) in
       let bytes = ap (λ (n : ℕ). drop n x) place_is ∙ at.whole.1 in
       let found = c.in_ok-length.ensures.found x (c.loop-done.invariant.quiet.same ∙ told) 1 at.whole.0 len bytes in
       let is : c.in-Whole.length ≡ length at.body = whole_only _ _ at.whole.0 _ at.whole (subst (λ (r : Gate). GateIs r 1 at.whole.0) c.in-Whole.is found) in
-      omega (arith, at.next, place_is, is);
+      let next : first + c.loop-done.done + 1 ≡ first + (c.loop-done.done + 1) = omega arith in
+      subst (λ (n : ℕ). c.loop-done.at + (5 + c.in-Whole.length) ≡ place n (kept end x)) next (omega (arith, at.next, place_is, is));
 }
 
 pub returns-clause-found : goal.returns-clause-found
-returns-clause-found g c = λ x told len end count places has lt.
+returns-clause-found g c = λ x told len end count first places has from lt.
     let done : c.loop-done.done ≡ c.args.steps = omega (arith, c.loop-done.invariant.within) in
-    let place_is = c.loop-done.invariant.at x told len end count places has (omega (arith, done, lt)) in
-    ap Some (place_is ∙ ap (λ (n : ℕ). place n (kept end x)) done)
+    let place_is = c.loop-done.invariant.at x told len end count first places has from (omega (arith, done, lt)) in
+    ap Some (place_is ∙ ap (λ (n : ℕ). place (first + n) (kept end x)) done)

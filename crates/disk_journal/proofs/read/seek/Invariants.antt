@@ -1,4 +1,4 @@
-use Rattle.std.proofs.Common.{◌≡◌, ◌≤◌, ◌-◌, ℕ, List, length}
+use Rattle.std.proofs.Common.{◌≡◌, ◌≤◌, ◌+◌, ◌-◌, ℕ, List, length}
 use Rattle.disk_model.specs.Disk.{WhereTold}
 use Rattle.disk_journal.specs.Format.{kept}
 use Rattle.disk_journal.specs.Journal.{HasRecords, place}
@@ -12,7 +12,7 @@ invariant-loop-done g l =
       quiet : Quiet D.seen D.images D.moment D.images_since l.fn.disk l.disk;
       within : l.done ≤ l.steps;
       later : D.faults l.fn.disk ≤ D.faults l.disk;
-      at : WhereTold (D.seen l.fn.disk) (λ c. l.len ≡ length c → (end count : ℕ) (places : List ℕ) → HasRecords end count places c → l.done ≤ count → l.at ≡ place l.done (kept end c));
+      at : WhereTold (D.seen l.fn.disk) (λ c. l.len ≡ length c → (end count first : ℕ) (places : List ℕ) → HasRecords end count places c → l.start ≡ place first (kept end c) → first + l.done ≤ count → l.at ≡ place (first + l.done) (kept end c));
     }
 
 abbrev pub decreases-loop-done : goal.decreases-loop-done

@@ -1,5 +1,6 @@
 -- A keeper over a journal, as its callers see it.
 use Rattle.std.specs.Prelude.{◌≡◌, ◌<◌, ◌≤◌, ◌+◌, ◌*◌, ◌^◌, ℕ, List, length, Option, Result, Ok, Err}
+use Rattle.disk_model.specs.Disk.{WhereTold}
 use Rattle.disk_model.specs.declared.ran.Held.{Held}
 use Rattle.disk_journal.specs.Format.{journal_of}
 use Rattle.disk_journal.specs.Journal.{place}
@@ -33,15 +34,19 @@ Journals images image = (c : List ℕ) × images c × (journal_of c ≡ image)
 abbrev pub keeper_faults : {D : Type 0} → (D → ℕ) → JournalKeeper D → ℕ
 keeper_faults faults k = faults (keeper_disk k) + keeper_changed k
 
--- what its journal is, while it can be read, while it rests and in doubt
+-- a disk that tells has never shown anything else there, so the keeper's count of faults is the disk's
+abbrev pub IsUnchanged : {D : Type 0} → (D → Option (List ℕ)) → JournalKeeper D → Type 0
+IsUnchanged seen k = WhereTold (keeper_records seen k) (λ r. keeper_changed k ≡ 0)
+
+-- it can be read; it rests; it is in doubt about a record, for which there is room
 abbrev pub KeeperReads : {D : Type 0} → (D → Option (List ℕ)) → JournalKeeper D → Type 0
-KeeperReads seen k = Holds seen k.journal
+KeeperReads seen k = IsUnchanged seen k × Holds seen k.journal
 
 abbrev pub KeeperRests : {D : Type 0} → (D → Option (List ℕ)) → (D → List ℕ → Type 0) → JournalKeeper D → Type 0
-KeeperRests seen images k = Rests seen images k.journal
+KeeperRests seen images k = IsUnchanged seen k × Rests seen images k.journal
 
 abbrev pub KeeperDoubts : {D : Type 0} → (D → Option (List ℕ)) → (D → List ℕ → Type 0) → JournalKeeper D → List ℕ → Type 0
-KeeperDoubts seen images k tried = Doubts seen images tried k.journal × (keeper_end k + length tried + 6 ≤ 2 ^ 28)
+KeeperDoubts seen images k tried = IsUnchanged seen k × (keeper_end k + length tried + 6 ≤ 2 ^ 28) × Doubts seen images tried k.journal
 
 -- so many records of together so many bytes don't lie below the limit of a journal that ends here
 abbrev pub IsPastLimit : ℕ → ℕ → ℕ → Type 0

@@ -10,25 +10,25 @@ use Rattle.disk_journal.proofs.Results.{mapped}
 use Rattle.disk_journal.proofs.Records.{journal_shut}
 use Rattle.disk_journal.proofs.Put.{may_have_journal}
 use Rattle.keepers.specs.Keeper.{Image, HoldsOnly, OneMoreOrNot}
-use Rattle.keepers.specs.JournalKeepers.{end_of, keeper_count, keeper_disk, keeper_end, keeper_records, IsPastLimit, Journals, KeeperDoubts, KeeperReads, KeeperRests}
+use Rattle.keepers.specs.JournalKeepers.{end_of, keeper_count, keeper_disk, keeper_end, keeper_faults, keeper_records, IsPastLimit, Journals, KeeperDoubts, KeeperReads, KeeperRests}
 use Rattle.keepers.specs.declared.journal_keeper.JournalKeeper.{JournalKeeper}
 
 module _ {D : Type 0} (seen : D → Option (List ℕ)) (images : D → List ℕ → Type 0) (k : JournalKeeper D) where
   pub rest_reads : KeeperRests seen images k → KeeperReads seen k
-  rest_reads rests = ((λ c told. (rests.0 c told).has), rests.1)
+  rest_reads rests = (rests.0, ((λ c told. (rests.1.0 c told).has), rests.1.1))
 
   pub doubt_reads : (tried : List ℕ) → KeeperDoubts seen images k tried → KeeperReads seen k
-  doubt_reads tried doubts = ((λ c told. (doubts.0.0 c told).has), doubts.0.1)
+  doubt_reads tried doubts = (doubts.0, ((λ c told. (doubts.2.0 c told).has), doubts.2.1))
 
   pub count_is : KeeperReads seen k → WhereTold (keeper_records seen k) (λ r. keeper_count k ≡ length r)
   count_is reads r is =
       let from = mapped (kept (keeper_end k)) (seen (keeper_disk k)) r is in
-      (reads.0 from.0 from.1).counts ∙ ap (λ (l : List (List ℕ)). length l) from.2
+      (reads.1.0 from.0 from.1).counts ∙ ap (λ (l : List (List ℕ)). length l) from.2
 
   pub end_is : KeeperReads seen k → WhereTold (keeper_records seen k) (λ r. keeper_end k ≡ end_of r)
   end_is reads r is =
       let from = mapped (kept (keeper_end k)) (seen (keeper_disk k)) r is in
-      let has = reads.0 from.0 from.1 in
+      let has = reads.1.0 from.0 from.1 in
       has.ends ∙ (λ i. place (has.counts i) (kept (keeper_end k) from.0)) ∙ ap end_of from.2
 
   pub past_limit : (n bytes : ℕ) → KeeperReads seen k → WhereTold (keeper_records seen k) (λ r. IsPastLimit (keeper_end k) n bytes ↔ IsPastLimit (end_of r) n bytes)
@@ -40,7 +40,7 @@ module _ {D : Type 0} (seen : D → Option (List ℕ)) (images : D → List ℕ 
   pub rest_journal : KeeperRests seen images k → (r : List (List ℕ)) → keeper_records seen k ≡ Some r → (c : List ℕ) → images (keeper_disk k) c → journal_of c ≡ Some r
   rest_journal rests r is c image =
       let from = mapped (kept (keeper_end k)) (seen (keeper_disk k)) r is in
-      let at = rests.0 from.0 from.1 in
+      let at = rests.1.0 from.0 from.1 in
       ap journal_of (at.durable c image) ∙ journal_shut at.has.front from.0 at.shut ∙ ap Some from.2
 
   pub rest_only : ((c : List ℕ) → seen (keeper_disk k) ≡ Some c → images (keeper_disk k) c) → KeeperRests seen images k → WhereTold (keeper_records seen k) (HoldsOnly (Journals (images (keeper_disk k))))
@@ -54,10 +54,14 @@ module _ {D : Type 0} (seen : D → Option (List ℕ)) (images : D → List ℕ 
   pub doubt_journals : (tried : List ℕ) → KeeperDoubts seen images k tried → WhereTold (keeper_records seen k) (λ r. (image : Image) → Journals (images (keeper_disk k)) image → OneMoreOrNot r tried image)
   doubt_journals tried doubts r is image holds =
       let from = mapped (kept (keeper_end k)) (seen (keeper_disk k)) r is in
-      let at = doubts.0.0 from.0 from.1 in
+      let at = doubts.2.0 from.0 from.1 in
       let short : length tried < 2 ^ 32 = omega (arith, doubts.1) in
       one_more (kept (keeper_end k) from.0) r (journal_of holds.0) image from.2 holds.2 (may_have_journal (take (keeper_end k) from.0) (kept (keeper_end k) from.0) tried holds.0 at.has.front short (at.each holds.0 holds.1))
     where
       one_more : (records r : List (List ℕ)) (found image : Image) → records ≡ r → found ≡ image → OneMoreOrNot records tried found → OneMoreOrNot r tried image
       one_more records r found image same is (inl before) = inl (sym is ∙ before ∙ ap Some same)
       one_more records r found image same is (inr with_it) = inr (sym is ∙ with_it ∙ ap (λ (l : List (List ℕ)). Some (l ++ tried ∷ [])) same)
+
+  -- where the disk tells, the count of faults is the disk's
+  pub told_faults : (faults : D → ℕ) → KeeperReads seen k → (r : List (List ℕ)) → keeper_records seen k ≡ Some r → keeper_faults faults k ≡ faults (keeper_disk k)
+  told_faults faults reads r is = omega (arith, reads.0 r is)

@@ -1,0 +1,9 @@
+pub mod Entering
+pub mod Firsts
+pub mod Growing
+pub mod Legality
+pub mod Openings
+pub mod Paging
+pub mod Receipting
+pub mod Replaying
+pub mod Running

@@ -1,0 +1,7 @@
+pub mod Histories
+pub mod Opening
+pub mod Pages
+pub mod Receipts
+pub mod Replays
+pub mod Results
+pub mod Sight

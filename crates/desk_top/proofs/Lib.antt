@@ -1,11 +1,3 @@
-pub mod Alike
 pub mod Clock
-pub mod CommandLemmas
-pub mod EndLemmas
-pub mod OpeningLemmas
-pub mod PromiseLemmas
 pub mod Results
-pub mod StatusLemmas
-pub mod Opened
 pub mod Texts
-pub mod TurnLemmas

@@ -2,7 +2,8 @@
 use Rattle.std.specs.Prelude.{◌≡◌, ◌≤◌, ℕ, List, codes, Option, Some, None, Result, Ok, Err}
 use Rattle.std.specs.Io.KnownBytes.{Keeps}
 use Rattle.desk_top.specs.LastLines.{Prints}
-use Rattle.desk_top.specs.Promises.{End, Promises, Run, Seen}
+use Rattle.desk_top.specs.Promises.{Promises}
+use Rattle.desk_top.specs.Runs.{End, Run, Seen}
 use Rattle.desk_top.specs.declared.fault.Fault.TheVariants.{Usage, Refused, NoDevice, TablesRead, InputRead, Write, TooMuch, Journal, Memory}
 use Rattle.desk_top.specs.declared.fault.Stop.{Stop}
 use Rattle.desk_top.specs.declared.fault.Stop.TheVariants as stop
@@ -54,7 +55,7 @@ Closes before now None = Keeps before.bytes now.bytes
 Closes before now (Some line) = Prints before.faults now.faults before.bytes now.bytes line
 
 -- The run kept its promises to some end, whose last line was printed behind all else, and it has the status of that end.
-pub record Ends {S T O K : Type 0} (run : Run S T O K) (told : ℕ) : Type 0 where
+pub record Ends {S T O D K : Type 0} (run : Run S T O D K) (told : ℕ) : Type 0 where
   pub end : End
   -- what is seen of the output before the last line
   pub out : Seen O

@@ -14,7 +14,7 @@ use Rattle.entry_codec.specs.declared.device.Device.{Device}
 use Rattle.keepers.specs.Keeper.{Image}
 use Rattle.roam_core.specs.Desk.{Desk, moment_of}
 use Rattle.book.specs.Results.{mark_of}
-use Rattle.desk_top.specs.Journals.{DeskOpened, Grows, Outside}
+use Rattle.desk_top.specs.Journals.{DeskOpened, Grows, Outside, StaysClosed}
 use Rattle.desk_top.specs.LastLines.{marked_line}
 use Rattle.desk_top.specs.Turns.{StopsIn, WritesAll, WritesFront, WritesTaken, WritesWhole}
 use Rattle.desk_top.specs.declared.fault.Fault.{Fault}
@@ -69,7 +69,7 @@ pub record IsMarked (suspended : Bool) (device : ℕ) (s : Desk) (before now : O
 pub record StaysUnmarked (suspended : Bool) (device : ℕ) (s : Desk) (before now : Outside) (e : Entry) : Type 0 where
   pub reading : ℕ
   pub clock : Told before.clock now.clock (reading ∷ [])
-  pub open : is_suspended device s ≡ suspended → ⊥
+  pub unmarked : is_suspended device s ≡ suspended → ⊥
   pub entry : e ≡ mark_of suspended device (moment_of reading s.now)
   pub written : Keeps before.written now.written
   pub records : now.records ≡ before.records
@@ -111,3 +111,17 @@ pub record Serves (fills : List (List ℕ) → ℕ → ℕ → Type 0) (limit : 
 abbrev pub Leaves : Type 0 → (List ℕ → Type 0) → Option Entry → Type 0
 Leaves rests doubts None = rests
 Leaves rests doubts (Some e) = doubts (encode_of e)
+
+-- ---- what comes of a keeper: it isn't opened, or the desk is opened on it
+
+-- `untouched` says that the input wasn't read
+pub record RunsClosed (fills : List (List ℕ) → ℕ → ℕ → Type 0) (c : Config) (text : List ℕ) (before now : Outside) (faults faults_now : ℕ) (holds : Image → Type 0) (untouched : Type 0) (end : Result (Unit {0}) Fault) : Type 0 where
+  pub why : Fault
+  pub end_is : end ≡ Err why
+  pub stays : StaysClosed fills c text before now faults faults_now holds why
+  pub input : untouched
+
+pub record RunsOpen (fills : List (List ℕ) → ℕ → ℕ → Type 0) (limit : ℕ) (task : Task) (c : Config) (text : List ℕ) (keys : List RootKeys) (input after : Option (List ℕ)) (before now : Outside) (rests : Type 0) (doubts : List ℕ → Type 0) (end : Result (Unit {0}) Fault) : Type 0 where
+  pub doubted : Option Entry
+  pub serves : Serves fills limit task c text keys input after before now doubted end
+  pub left : Leaves rests doubts doubted

@@ -41,27 +41,45 @@ fn turn<P: Keeper, E: BlockFn, D: BlockFn, T: Source, O: Sink, K: Clock>(
     ensures turns { IfOk result
         (λ goes. Turns book.old.page.config book.old.fixed.keys
         (coming ahead.old (T.left input.old)) book.old.page.desk
-        (record { clock = K.tells clock.old; written = O.written out.old;
-          records = book.old.page.records }) goes
+        (record {
+          clock = K.tells clock.old;
+          written = O.written out.old;
+          records = book.old.page.records;
+        }) goes
         (coming ahead.new (T.left input.new)) book.new.page.desk
-        (record { clock = K.tells clock.new; written = O.written out.new;
-          records = book.new.page.records })) }
+        (record {
+          clock = K.tells clock.new;
+          written = O.written out.new;
+          records = book.new.page.records;
+        })) }
     ensures end { IfOk result (λ goes. OnFalse goes (IsAtEnd (T.left input.new))) }
     ensures front { IfErr result (λ e. (StopsLines e → ⊥) →
         WritesFront book.old.page.config book.old.fixed.keys book.old.page.desk
         (coming ahead.old (T.left input.old))
-        (record { clock = K.tells clock.old; written = O.written out.old;
-          records = book.old.page.records })
-        (record { clock = K.tells clock.new; written = O.written out.new;
-          records = book.new.page.records }) × (book.new.page.tried ≡ None)) }
+        (record {
+          clock = K.tells clock.old;
+          written = O.written out.old;
+          records = book.old.page.records;
+        })
+        (record {
+          clock = K.tells clock.new;
+          written = O.written out.new;
+          records = book.new.page.records;
+        }) × (book.new.page.tried ≡ None)) }
     ensures stops { (why : Stop) → IsErrOf result (Fault.Journal why) → (e : an_entry.Entry)
         × TurnStops book.old.page.config book.old.fixed.keys
         (coming ahead.old (T.left input.old)) book.old.page.desk
-        (record { clock = K.tells clock.old; written = O.written out.old;
-          records = book.old.page.records })
+        (record {
+          clock = K.tells clock.old;
+          written = O.written out.old;
+          records = book.old.page.records;
+        })
         (coming ahead.new (T.left input.new))
-        (record { clock = K.tells clock.new; written = O.written out.new;
-          records = book.new.page.records }) e
+        (record {
+          clock = K.tells clock.new;
+          written = O.written out.new;
+          records = book.new.page.records;
+        }) e
         × Unwritten P.fills e book.new.page.records book.new.page.tried why }
     ensures kind { IfErr result IsOfLines }
     ensures spends { IfOk result (λ goes. Spends goes (budget ahead.old) (budget ahead.new)) }
@@ -121,10 +139,16 @@ pub(crate) fn answer_lines<P: Keeper, E: BlockFn, D: BlockFn, T: Source, O: Sink
     // What was written and is in the journal, by how it ended.
     ensures answered { LinesAnswered P.fills limit book.old.page.config book.old.fixed.keys
         book.old.page.desk (T.left input.old) (T.left input.new)
-        (record { clock = K.tells clock.old; written = O.written out.old;
-          records = book.old.page.records })
-        (record { clock = K.tells clock.new; written = O.written out.new;
-          records = book.new.page.records })
+        (record {
+          clock = K.tells clock.old;
+          written = O.written out.old;
+          records = book.old.page.records;
+        })
+        (record {
+          clock = K.tells clock.new;
+          written = O.written out.new;
+          records = book.new.page.records;
+        })
         book.new.page.tried result }
 
     ensures read { IsErrOf result Fault.InputRead → Rose (T.faults input.old) (T.faults input.new) }

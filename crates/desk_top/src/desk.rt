@@ -1,6 +1,6 @@
 //! The desk on its journal: opened on a keeper, with the keys of its tables.
 
-ghost use Rattle.std.specs.Prelude.{◌≡◌, ◌↔◌, ◌+◌, ◌^◌, ◌<◌, ◌≤◌, ◌⊎◌, List, ℕ, Option, length, vec_len};
+ghost use Rattle.std.specs.Prelude.{◌≡◌, ◌↔◌, ◌+◌, ◌^◌, ◌<◌, ◌≤◌, ◌⊎◌, List, ℕ, length, vec_len};
 ghost use Rattle.std.specs.Prelude.{Err, Ok, IsErrOf};
 ghost use Rattle.std.specs.Io.KnownBytes.{Consumes};
 ghost use Rattle.wire_ids.specs.Causes.{Rose};
@@ -9,7 +9,7 @@ ghost use Rattle.key_vault.specs.Table.{Serves as ServesKeys, Encrypts, Decrypts
 ghost use Rattle.agreements.specs.Walk.{tables_of};
 ghost use Rattle.desk_top.specs.Journals.{TellsBook};
 ghost use Rattle.desk_top.specs.Output.{key_table};
-ghost use Rattle.desk_top.specs.Tasks.{HasRow, Runs};
+ghost use Rattle.desk_top.specs.Tasks.{HasRow, RunsClosed, RunsOpen};
 ghost use Rattle.desk_top.specs.declared.fault.Fault.TheVariants as fault;
 
 use crate::ended::Ended;
@@ -43,15 +43,7 @@ fn stop_of(alloc: Global, fault: BookFault) -> Fault
 }
 
 // Reads the clock, opens the book of a keeper and does the task on it.
-fn with_vault<
-    P: Keeper,
-    E: BlockFn,
-    D: BlockFn,
-    T: Source,
-    O: Sink,
-    K: Clock,
-    G: Ledger,
->(
+fn with_vault<P: Keeper, E: BlockFn, D: BlockFn, T: Source, O: Sink, K: Clock, G: Ledger>(
     alloc: Global,
     limit: u64,
     task: Task,
@@ -63,6 +55,48 @@ fn with_vault<
     clock: &mut K,
     steps: &mut Steps<G>,
 ) -> Ended<P>
+    requires limit { limit < 2 ^ 62 }
+    requires rests { P.rests keeper }
+    requires text { tables_of opened.text ≡ Ok opened.tables }
+    requires row { HasRow opened.tables task }
+    requires keys { vault ≡ key_table opened.tables }
+    ensures runs { RunsClosed P.fills opened.tables opened.text
+        (record {
+          clock = K.tells clock.old;
+          written = O.written out.old;
+          records = P.records keeper;
+        })
+        (record {
+          clock = K.tells clock.new;
+          written = O.written out.new;
+          records = P.records result.object;
+        })
+        (P.faults keeper) (P.faults result.object) (P.holds result.object)
+        (input.new ≡ input.old) result.end
+        ⊎ RunsOpen P.fills limit task opened.tables opened.text (key_table opened.tables)
+        (T.left input.old) (T.left input.new)
+        (record {
+          clock = K.tells clock.old;
+          written = O.written out.old;
+          records = P.records keeper;
+        })
+        (record {
+          clock = K.tells clock.new;
+          written = O.written out.new;
+          records = P.records result.object;
+        })
+        (P.rests result.object) (P.doubts result.object) result.end }
+    ensures read { IsErrOf result.end Fault.InputRead
+        → Rose (T.faults input.old) (T.faults input.new) }
+    ensures write { IsErrOf result.end Fault.Write → Rose (O.faults out.old) (O.faults out.new) }
+    ensures disk { IsErrOf result.end (Fault.Journal Stop.Failed)
+        → Rose (P.faults keeper) (P.faults result.object) }
+    ensures too_much { (bytes : List ℕ) × Consumes (T.left input.old) (T.left input.new) bytes
+        × ((result.end ≡ Err fault.TooMuch) ↔ (limit < length bytes))
+        × (length bytes ≤ limit + 1) }
+    ensures input_count { T.faults input.old ≤ T.faults input.new }
+    ensures out_count { O.faults out.old ≤ O.faults out.new }
+    ensures disk_count { P.faults keeper ≤ P.faults result.object }
 {
     let TablesText { tables, text } = opened;
     let now = Moment(clock.now());
@@ -83,15 +117,7 @@ fn with_vault<
 }
 
 // The same with a vault over these two closures, which has no raw key.
-fn with_closures<
-    P: Keeper,
-    E: BlockFn,
-    D: BlockFn,
-    T: Source,
-    O: Sink,
-    K: Clock,
-    G: Ledger,
->(
+fn with_closures<P: Keeper, E: BlockFn, D: BlockFn, T: Source, O: Sink, K: Clock, G: Ledger>(
     alloc: Global,
     limit: u64,
     task: Task,
@@ -105,12 +131,53 @@ fn with_closures<
     clock: &mut K,
     steps: &mut Steps<G>,
 ) -> Ended<P>
+    requires limit { limit < 2 ^ 62 }
+    requires rests { P.rests keeper }
+    requires text { tables_of opened.text ≡ Ok opened.tables }
+    requires row { HasRow opened.tables task }
     requires rows { keys.items ≡ key_table opened.tables }
     requires few { vec_len keys ≤ 4096 }
     requires may_encrypt { ServesKeys (E.may encrypt) (vec_len keys) }
     requires encrypts { Encrypts (E.gives encrypt) keys.items }
     requires may_decrypt { ServesKeys (D.may decrypt) (vec_len keys) }
     requires decrypts { Decrypts (D.gives decrypt) keys.items }
+    ensures runs { RunsClosed P.fills opened.tables opened.text
+        (record {
+          clock = K.tells clock.old;
+          written = O.written out.old;
+          records = P.records keeper;
+        })
+        (record {
+          clock = K.tells clock.new;
+          written = O.written out.new;
+          records = P.records result.object;
+        })
+        (P.faults keeper) (P.faults result.object) (P.holds result.object)
+        (input.new ≡ input.old) result.end
+        ⊎ RunsOpen P.fills limit task opened.tables opened.text (key_table opened.tables)
+        (T.left input.old) (T.left input.new)
+        (record {
+          clock = K.tells clock.old;
+          written = O.written out.old;
+          records = P.records keeper;
+        })
+        (record {
+          clock = K.tells clock.new;
+          written = O.written out.new;
+          records = P.records result.object;
+        })
+        (P.rests result.object) (P.doubts result.object) result.end }
+    ensures read { IsErrOf result.end Fault.InputRead
+        → Rose (T.faults input.old) (T.faults input.new) }
+    ensures write { IsErrOf result.end Fault.Write → Rose (O.faults out.old) (O.faults out.new) }
+    ensures disk { IsErrOf result.end (Fault.Journal Stop.Failed)
+        → Rose (P.faults keeper) (P.faults result.object) }
+    ensures too_much { (bytes : List ℕ) × Consumes (T.left input.old) (T.left input.new) bytes
+        × ((result.end ≡ Err fault.TooMuch) ↔ (limit < length bytes))
+        × (length bytes ≤ limit + 1) }
+    ensures input_count { T.faults input.old ≤ T.faults input.new }
+    ensures out_count { O.faults out.old ≤ O.faults out.new }
+    ensures disk_count { P.faults keeper ≤ P.faults result.object }
 {
     let vault = Vault::new(&keys, encrypt, decrypt);
     drop(keys);
@@ -139,6 +206,49 @@ pub(crate) fn run_desk<P: Keeper, T: Source, O: Sink, K: Clock, G: Ledger>(
     clock: &mut K,
     steps: &mut Steps<G>,
 ) -> Ended<P>
+    requires limit { limit < 2 ^ 62 }
+    requires rests { P.rests keeper }
+    requires text { tables_of opened.text ≡ Ok opened.tables }
+    requires row { HasRow opened.tables task }
+    ensures runs { (IsErrOf result.end Fault.Memory × (result.object ≡ keeper) × (input.new ≡ input.old)
+        × (out.new ≡ out.old) × (clock.new ≡ clock.old))
+        ⊎ RunsClosed P.fills opened.tables opened.text
+        (record {
+          clock = K.tells clock.old;
+          written = O.written out.old;
+          records = P.records keeper;
+        })
+        (record {
+          clock = K.tells clock.new;
+          written = O.written out.new;
+          records = P.records result.object;
+        })
+        (P.faults keeper) (P.faults result.object) (P.holds result.object)
+        (input.new ≡ input.old) result.end
+        ⊎ RunsOpen P.fills limit task opened.tables opened.text (key_table opened.tables)
+        (T.left input.old) (T.left input.new)
+        (record {
+          clock = K.tells clock.old;
+          written = O.written out.old;
+          records = P.records keeper;
+        })
+        (record {
+          clock = K.tells clock.new;
+          written = O.written out.new;
+          records = P.records result.object;
+        })
+        (P.rests result.object) (P.doubts result.object) result.end }
+    ensures read { IsErrOf result.end Fault.InputRead
+        → Rose (T.faults input.old) (T.faults input.new) }
+    ensures write { IsErrOf result.end Fault.Write → Rose (O.faults out.old) (O.faults out.new) }
+    ensures disk { IsErrOf result.end (Fault.Journal Stop.Failed)
+        → Rose (P.faults keeper) (P.faults result.object) }
+    ensures too_much { (bytes : List ℕ) × Consumes (T.left input.old) (T.left input.new) bytes
+        × ((result.end ≡ Err fault.TooMuch) ↔ (limit < length bytes))
+        × (length bytes ≤ limit + 1) }
+    ensures input_count { T.faults input.old ≤ T.faults input.new }
+    ensures out_count { O.faults out.old ≤ O.faults out.new }
+    ensures disk_count { P.faults keeper ≤ P.faults result.object }
 {
     let count = opened.tables.devices().len();
     prove!(count <= 4096);

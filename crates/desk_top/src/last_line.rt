@@ -6,7 +6,7 @@ ghost use Rattle.desk_top.specs.Ends.{Closes, last_line, line_of_stop, status_of
 ghost use Rattle.desk_top.specs.Faults.{IsOfPrinting};
 ghost use Rattle.desk_top.specs.LastLines.{Prints, bad_entry_line, foreign_line, no_device_line};
 ghost use Rattle.desk_top.specs.LastLines.{path_or_dash, refused_line};
-ghost use Rattle.desk_top.specs.Promises.{seen};
+ghost use Rattle.desk_top.specs.Runs.{seen};
 
 use crate::fault::{Fault, Stop};
 use agreements::TablesFault;

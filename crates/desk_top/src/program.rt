@@ -1,6 +1,7 @@
 ghost use Rattle.std.specs.Prelude.{◌≡◌, ◌≤◌};
 ghost use Rattle.desk_top.specs.Ends.{Ends};
-ghost use Rattle.desk_top.specs.Promises.{Promises, seen, seen_clock};
+ghost use Rattle.desk_top.specs.Promises.{Promises};
+ghost use Rattle.desk_top.specs.Runs.{seen, seen_clock};
 
 use crate::counts::print_counts;
 use crate::desk::run_desk;
@@ -50,8 +51,7 @@ fn on_disk<T: Source, O: Sink, D: Disk, K: Clock, G: Ledger>(
     disk: D,
     clock: &mut K,
     steps: &mut Steps<G>,
-) -> Ended<D>
-{
+) -> Ended<D> {
     let keeper = match take_journal(alloc, disk) {
         Ok(keeper) => keeper,
         Err(Held { object, fault }) => {
@@ -83,8 +83,7 @@ fn prepare<S: Source>(
     alloc: Global,
     words: &[String],
     tables: &mut S,
-) -> Result<(TablesText, Option<Task>), Fault>
-{
+) -> Result<(TablesText, Option<Task>), Fault> {
     let Some(command) = command_of(words) else {
         return Err(Fault::Usage);
     };
@@ -104,11 +103,23 @@ fn work<S: Source, T: Source, O: Sink, D: Disk, K: Clock, G: Ledger>(
     clock: &mut K,
     steps: &mut Steps<G>,
 ) -> Ended<D>
+    ensures promises { Promises (record {
+      words = words.now;
+      tables = seen S.left S.faults tables.old;
+      tables_after = seen S.left S.faults tables.new;
+      input = seen T.left T.faults input.old;
+      input_after = seen T.left T.faults input.new;
+      out = seen O.written O.faults out.old;
+      out_after = seen O.written O.faults out.new;
+      disk = seen D.seen D.faults disk;
+      disk_after = seen D.seen D.faults result.object;
+      clock = seen_clock K.tells clock.old;
+      clock_after = seen_clock K.tells clock.new;
+    }) result.end }
+    ensures out_count { O.faults out.old ≤ O.faults out.new }
 {
     match prepare(alloc, words, tables) {
-        Ok((opened, Some(task))) => {
-            on_disk(alloc, task, opened, input, out, disk, clock, steps)
-        }
+        Ok((opened, Some(task))) => { on_disk(alloc, task, opened, input, out, disk, clock, steps) }
         Ok((opened, None)) => Ended {
             object: disk,
             end: print_counts(alloc, &opened.tables, out),
@@ -159,6 +170,21 @@ pub fn run<S: Source, T: Source, O: Sink, D: Disk, L: Link, K: Clock, G: Ledger>
     clock: &mut K,
     steps: &mut Steps<G>,
 ) -> Ran<D>
+    // What is promised of each end, its last line and its status: `Promises` and `Ends`.
+    ensures ends { Ends (record {
+      words = words.now;
+      tables = seen S.left S.faults tables.old;
+      tables_after = seen S.left S.faults tables.new;
+      input = seen T.left T.faults input.old;
+      input_after = seen T.left T.faults input.new;
+      out = seen O.written O.faults out.old;
+      out_after = seen O.written O.faults out.new;
+      disk = seen D.seen D.faults disk;
+      disk_after = seen D.seen D.faults result.disks;
+      clock = seen_clock K.tells clock.old;
+      clock_after = seen_clock K.tells clock.new;
+    }) result.status }
+
     // No peer is asked.
     ensures link { link.new ≡ link.old }
 {

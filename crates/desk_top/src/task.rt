@@ -66,10 +66,16 @@ fn mark<P: Keeper, E: BlockFn, D: BlockFn, O: Sink, K: Clock>(
     requires whole { book.old.page.tried ≡ None }
     requires device { device < length book.old.page.config.devices }
     ensures marked { DeviceMarked P.fills suspended device eui book.old.page.desk
-        (record { clock = K.tells clock.old; written = O.written out.old;
-          records = book.old.page.records })
-        (record { clock = K.tells clock.new; written = O.written out.new;
-          records = book.new.page.records })
+        (record {
+          clock = K.tells clock.old;
+          written = O.written out.old;
+          records = book.old.page.records;
+        })
+        (record {
+          clock = K.tells clock.new;
+          written = O.written out.new;
+          records = book.new.page.records;
+        })
         book.new.page.tried result }
     ensures write { IsErrOf result Fault.Write → Rose (O.faults out.old) (O.faults out.new) }
     ensures disk { IsErrOf result (Fault.Journal Stop.Failed)
@@ -113,10 +119,16 @@ pub(crate) fn serve<P: Keeper, E: BlockFn, D: BlockFn, T: Source, O: Sink, K: Cl
     // What was written and is in the journal, by how it ended.
     ensures does { Does P.fills limit task book.old.page.config book.old.fixed.keys
         book.old.page.desk (T.left input.old) (T.left input.new)
-        (record { clock = K.tells clock.old; written = O.written out.old;
-          records = book.old.page.records })
-        (record { clock = K.tells clock.new; written = O.written out.new;
-          records = book.new.page.records })
+        (record {
+          clock = K.tells clock.old;
+          written = O.written out.old;
+          records = book.old.page.records;
+        })
+        (record {
+          clock = K.tells clock.new;
+          written = O.written out.new;
+          records = book.new.page.records;
+        })
         book.new.page.tried result }
     ensures read { IsErrOf result Fault.InputRead → Rose (T.faults input.old) (T.faults input.new) }
     ensures write { IsErrOf result Fault.Write → Rose (O.faults out.old) (O.faults out.new) }

@@ -1,4 +1,4 @@
-ghost use Rattle.std.specs.Prelude.{◌≡◌, ◌↔◌, ⊥, IsTrue, IfSome, IfNone};
+ghost use Rattle.std.specs.Prelude.{◌≡◌, ◌↔◌, IsTrue, IfSome, IfNone};
 ghost use Rattle.wire_ids.specs.declared.eui.Eui.{Eui as Name};
 ghost use Rattle.desk_top.specs.declared.words.Command.{Command as Asked};
 ghost use Rattle.desk_top.specs.Words.{HasEui, HasWord, Marks, Spells, SpellsNone, files};

@@ -1,3 +1,9 @@
 pub mod Clock
 pub mod Results
 pub mod Texts
+pub mod Growing
+pub mod TurnLemmas
+pub mod EndLemmas
+pub mod OpeningLemmas
+pub mod Alike
+pub mod WordLemmas

@@ -107,10 +107,10 @@ pub record NoRow {S T O D K : Type 0} (run : Run S T O D K) (end : End) : Type 0
 
 -- what a command asks of the desk of these tables
 abbrev pub Asks : Config → Command → Task → Type 0
-Asks c Check task = ⊥
-Asks c Answer task = task ≡ task.Answer
-Asks c (Suspend eui) task = (device : ℕ) × (device_place eui c.devices ≡ Some device) × (task ≡ task.Mark true device eui)
-Asks c (Resume eui) task = (device : ℕ) × (device_place eui c.devices ≡ Some device) × (task ≡ task.Mark false device eui)
+Asks c Check asked = ⊥
+Asks c Answer asked = asked ≡ task.Answer
+Asks c (Suspend eui) asked = (device : ℕ) × (device_place eui c.devices ≡ Some device) × (asked ≡ task.Mark true device eui)
+Asks c (Resume eui) asked = (device : ℕ) × (device_place eui c.devices ≡ Some device) × (asked ≡ task.Mark false device eui)
 
 -- The disk isn't taken as a journal. Neither the input nor the clock is read, and nothing is written.
 pub record NoJournal {S T O D K : Type 0} (run : Run S T O D K) (end : End) : Type 0 where

@@ -1,7 +1,7 @@
 //! What is done on a desk that was opened: the lines of the input are answered, or a device is
 //! marked.
 
-ghost use Rattle.std.specs.Prelude.{◌≡◌, ◌↔◌, ◌^◌, ◌<◌, ◌≤◌, List, ℕ, length};
+ghost use Rattle.std.specs.Prelude.{◌≡◌, ◌↔◌, ◌+◌, ◌^◌, ◌<◌, ◌≤◌, List, ℕ, length};
 ghost use Rattle.std.specs.Prelude.{Err, None, IfErr, IsErrOf, IfOk, OnOk};
 ghost use Rattle.std.specs.Io.KnownBytes.{Consumes};
 ghost use Rattle.wire_ids.specs.Causes.{Rose};

@@ -64,25 +64,53 @@ fn marked(words: &[String], command: &str) -> Option<Eui>
     None
 }
 
+// The mark that the words spell.
+fn mark_of(words: &[String]) -> Option<Command>
+    ensures found { IfSome result (Spells words.now) }
+    ensures none { IfNone result ((eui : Name) → (Spells words.now (Asked.Suspend eui) → ⊥)
+        × (Spells words.now (Asked.Resume eui) → ⊥)) }
+{
+    match marked(words, "suspend") {
+        Some(eui) => Some(Command::Suspend(eui)),
+        None => match marked(words, "resume") {
+            Some(eui) => Some(Command::Resume(eui)),
+            None => None,
+        },
+    }
+}
+
+// Whether the words are `check --tables PATH`.
+fn is_check(words: &[String]) -> bool
+    ensures { IsTrue result ↔ Spells words.now Asked.Check }
+{
+    words.len() == 3 && has_word(words, 0, "check") && has_word(words, 1, "--tables")
+}
+
+// Whether the words are `answer --tables PATH --journal PATH`.
+fn is_answer(words: &[String]) -> bool
+    ensures { IsTrue result ↔ Spells words.now Asked.Answer }
+{
+    words.len() == 5
+        && has_word(words, 0, "answer")
+        && has_word(words, 1, "--tables")
+        && has_word(words, 3, "--journal")
+}
+
 // The command that the words spell.
 pub(crate) fn command_of(words: &[String]) -> Option<Command>
     ensures found { IfSome result (Spells words.now) }
     ensures none { IfNone result (SpellsNone words.now) }
 {
-    if words.len() == 3 && has_word(words, 0, "check") && has_word(words, 1, "--tables") {
+    if is_check(words) {
         return Some(Command::Check);
     }
-    if words.len() == 5
-        && has_word(words, 0, "answer")
-        && has_word(words, 1, "--tables")
-        && has_word(words, 3, "--journal")
-    {
+    if is_answer(words) {
         return Some(Command::Answer);
     }
-    if let Some(eui) = marked(words, "suspend") {
-        return Some(Command::Suspend(eui));
+    match mark_of(words) {
+        Some(command) => Some(command),
+        None => None,
     }
-    marked(words, "resume").map(Command::Resume)
 }
 
 /// What a caller of `run` prepares for these words, or None exactly where they are no command:

@@ -35,7 +35,7 @@ counted m (e ∷ es) = let more = counted (after m e) es in let one = entries_af
 pub long : (c : Config) (es : List Entry) → (desk_at c es).now.entries ≡ length es
 long c es = ap (λ (m : Machine). m.entries) (desk_now (empty_desk c) es) ∙ counted (empty c) es ∙ (let none = first_entries c in omega (arith, none))
 
-may_then : (c : Config) (keys : List RootKeys) (s : Desk) (es more : List Entry) → MayFollow c keys s es → MayFollow c keys (desk_from s es) more → MayFollow c keys s (es ++ more)
+pub may_then : (c : Config) (keys : List RootKeys) (s : Desk) (es more : List Entry) → MayFollow c keys s es → MayFollow c keys (desk_from s es) more → MayFollow c keys s (es ++ more)
 may_then c keys s [] more first then = then
 may_then c keys s (e ∷ es) more first then = (first.0, first.1, may_then c keys (desk_after s e) es more first.2 then)
 
@@ -49,7 +49,7 @@ drop_front zero es more le = refl
 drop_front (suc n) [] more le = absurd (omega (arith, le))
 drop_front (suc n) (e ∷ es) more le = drop_front n es more (omega (arith, le))
 
-joined : (n : ℕ) (es : List Entry) → take n es ++ drop n es ≡ es
+pub joined : (n : ℕ) (es : List Entry) → take n es ++ drop n es ≡ es
 joined zero es = refl
 joined (suc n) [] = refl
 joined (suc n) (e ∷ es) = ap (λ (l : List Entry). e ∷ l) (joined n es)

@@ -2,6 +2,7 @@ pub mod Entering
 pub mod Firsts
 pub mod Growing
 pub mod Legality
+pub mod Living
 pub mod Openings
 pub mod Paging
 pub mod Receipting

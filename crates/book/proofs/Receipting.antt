@@ -14,7 +14,7 @@ use Rattle.roam_core.specs.Legal.{desk_at}
 use Rattle.roam_core.specs.Lines.{one_more, reaction}
 use Rattle.book.specs.Histories.{IsHistory, entries_of}
 use Rattle.book.specs.Receipts.{GivesGood, IsGood, IsGoodFor, Receipt}
-use Rattle.book.specs.Results.{Answers, DecidesSo, reaction_in}
+use Rattle.book.specs.Results.{Answers, DecidesSo, IsFullAnswer, LacksRoom, reaction_in}
 use Rattle.book.specs.Sight.{Fixed, Sight}
 use Rattle.book.specs.declared.answered.Answered.{Answered}
 use Rattle.book.specs.declared.answered.Answered.TheVariants as answered
@@ -81,6 +81,15 @@ module _ {K : Type 0} where
   gives_good full answered.Fault body at old new history from to a = tt
   gives_good full answered.Full body at old new history from to a = tt
   gives_good full answered.Memory body at old new history from to a = tt
+
+-- ---- a full keeper
+
+module _ {K : Type 0} where
+  pub lacks_room : (full fills : ℕ → ℕ → Type 0) (result : Answered) (body : List ℕ) (at : ℕ) (old new : Sight K) → ((n bytes : ℕ) → full n bytes → fills n bytes) → DecidesSo full result body at old new → IsFullAnswer result → LacksRoom fills body at old
+  lacks_room full fills (answered.Answer bytes point moment entered) body at old new gives a is = absurd is
+  lacks_room full fills answered.Fault body at old new gives a is = absurd is
+  lacks_room full fills answered.Full body at old new gives a is = (a.0, a.1, gives 1 (length (encode_of a.0)) a.3)
+  lacks_room full fills answered.Memory body at old new gives a is = absurd is
 
 -- ---- a later list
 

@@ -1,4 +1,5 @@
 pub mod Histories
+pub mod Lives
 pub mod Opening
 pub mod Pages
 pub mod Receipts

@@ -81,6 +81,16 @@ DecidesSo full answered.Memory body at old new = Stays old new
 abbrev pub AnswersSo : {K : Type 0} → (ℕ → ℕ → Type 0) → Answered → List ℕ → ℕ → Sight K → Sight K → Type 0
 AnswersSo full result body now old new = DecidesSo full result body (moment_in old now) old new
 
+-- `fills` says that behind the records there is no room for so many more: there is none for the entry that the body makes
+abbrev pub LacksRoom : {K : Type 0} → (ℕ → ℕ → Type 0) → List ℕ → ℕ → Sight K → Type 0
+LacksRoom fills body at old = (e : Entry) × Makes body at old e × fills 1 (length (encode_of e))
+
+abbrev pub IsFullAnswer : Answered → Type 0
+IsFullAnswer (answered.Answer bytes point moment entered) = ⊥
+IsFullAnswer answered.Fault = ⊥
+IsFullAnswer answered.Full = Unit {0}
+IsFullAnswer answered.Memory = ⊥
+
 -- an image holds these records, with what was made or without it
 abbrev pub MadeOrNot : List (List ℕ) → Option Entry → Image → Type 0
 MadeOrNot records None image = image ≡ Some records

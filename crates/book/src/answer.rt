@@ -5,11 +5,12 @@ ghost use Rattle.roam_core.specs.Agreement.{Agrees};
 ghost use Rattle.roam_core.specs.Entering.{CanEnter};
 ghost use Rattle.roam_core.specs.Lines.{line_decided};
 ghost use Rattle.book.specs.Receipts.{GivesGood};
-ghost use Rattle.book.specs.Results.{AnswersSo, DecidesSo, MadeOrNot, moment_in, reaction_in};
+ghost use Rattle.book.specs.Results.{AnswersSo, DecidesSo, IsFullAnswer, LacksRoom, MadeOrNot};
+ghost use Rattle.book.specs.Results.{moment_in, reaction_in};
 
 use crate::answered::Answered;
 use crate::book::Book;
-use crate::pages::Written;
+use crate::pages::{MOST_ENTRIES, Written};
 use keepers::Keeper;
 use key_vault::BlockFn;
 use roam_core::{Reaction, answers_agree, knows_senders, react};
@@ -25,7 +26,7 @@ impl<K: Keeper, E: BlockFn, D: BlockFn> Book<K, E, D> {
     {
         self.sound();
         knows_senders(self.tables());
-        self.state().entries() < 1 << 63
+        self.state().entries() < MOST_ENTRIES
     }
 
     // Decides a body at this moment, and writes its entry.
@@ -90,6 +91,9 @@ impl<K: Keeper, E: BlockFn, D: BlockFn> Book<K, E, D> {
         ensures agrees { Agrees self.old.page.config self.old.fixed.keys self.old.page.desk
             (moment_in self.old now.0) (line_decided self.old.page.config self.old.fixed.keys
             self.old.page.desk body.now (moment_in self.old now.0)) }
+        // Whether it is full follows from the records, the body and the moment.
+        ensures full { IsFullAnswer result → WhereTold self.old.page.records
+            (λ rs. LacksRoom (K.fills rs) body.now (moment_in self.old now.0) self.old) }
         // At each moment each image has the entries before, with the body's or without it.
         ensures any_moment { WhereTold self.old.page.records
             (λ rs. LeavesOnly K.moment K.held_since self.old.page.keeper self.new.page.keeper

@@ -120,9 +120,14 @@ impl<K: Keeper, E: BlockFn, D: BlockFn> Book<K, E, D> {
             → WhereTold self.old.page.records
             (λ rs. LeavesOnly K.moment K.held_since self.old.page.keeper self.new.page.keeper
             (OneMoreOrNot rs (encode_of e))) }
+        // Whole again, it has what each image has.
+        ensures held { self.new.page.tried ≡ None → WhereTold self.new.page.records
+            (HoldsOnly (K.holds self.new.page.keeper)) }
     {
         self.pages.sound();
-        self.pages.mend()
+        let mended = self.pages.mend();
+        self.sound();
+        mended
     }
 
     // Writes one entry.

@@ -16,7 +16,7 @@ ghost use Rattle.book.specs.Replays.{Fails, IsRead};
 use crate::book::Book;
 use crate::draft::Draft;
 use crate::faults::BookFault;
-use crate::pages::{Pages, Written};
+use crate::pages::{MOST_ENTRIES, Pages, Written};
 use crate::replay::replay;
 use agreements::Tables;
 use disk_model::{Held, Steps};
@@ -120,7 +120,7 @@ impl<K: Keeper> Pages<K> {
     {
         self.sound();
         let entries = self.state().entries();
-        if entries >= 1 << 62 {
+        if entries >= MOST_ENTRIES {
             return Err(BookFault::Memory);
         }
         let moment = self.moment(now);

@@ -24,6 +24,9 @@ use std::marker::Model;
 use std::snapshot::Snapshot;
 use wire_ids::Moment;
 
+/// Fewer entries than this leave a number for the next ones. No keeper comes near it.
+pub(crate) const MOST_ENTRIES: u64 = 1 << 62;
+
 /// What became of entries that were to be written.
 pub(crate) enum Written {
     /// They are written.

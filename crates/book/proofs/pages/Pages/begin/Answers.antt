@@ -13,8 +13,8 @@ use Rattle.book.proofs.pages.Pages.begin.Goals as goal
 pub drafts_at-requires : goal.drafts_at-requires
 drafts_at-requires g c = short_text c.args.text c.args.self.now.config c.requires.text
 
-pub returns-then-entries-clause-any_moment : goal.returns-then-entries-clause-any_moment
-returns-then-entries-clause-any_moment g c =
+pub returns-then-entries-ge-MOST_ENTRIES-clause-any_moment : goal.returns-then-entries-ge-MOST_ENTRIES-clause-any_moment
+returns-then-entries-ge-MOST_ENTRIES-clause-any_moment g c =
     let K = g.K.Keeper in
     let self = c.args.self.now in
     let keeper = self.keeper in

@@ -1,5 +1,5 @@
 -- A long line is answered by its front.
-use Rattle.std.proofs.Common.{◌≡◌, ℕ, List, [], ◌∷◌, ◌++◌, length, take, true, Option, Some, ap, subst, sym, ◌∙◌, arith, inl, inr}
+use Rattle.std.proofs.Common.{◌≡◌, ℕ, List, [], ◌∷◌, ◌++◌, length, take, true, Option, Some, None, refl, ap, subst, sym, ◌∙◌, arith, inl, inr}
 use Rattle.std.proofs.lemmas.Bool.{cases_lt}
 use Rattle.std.proofs.lemmas.List.{take_all}
 use Rattle.std.specs.Io.KnownBytes.{Appends, Keeps}
@@ -13,6 +13,7 @@ use Rattle.line_reader.specs.declared.reader.Heard.TheVariants.{Line}
 use Rattle.entries.specs.declared.entry.Entry.{Entry}
 use Rattle.roam_core.specs.Desk.{Desk, desk_with, moment_of}
 use Rattle.roam_core.specs.Lines.{Reaction, answer_to, one_more, reaction}
+use Rattle.roam_core.specs.Legal.{desk_from}
 use Rattle.roam_core.proofs.Long.{too_long_alike}
 use Rattle.desk_top.specs.Output.{answer_line, desk_then, entry_then}
 use Rattle.desk_top.specs.Journals.{Grows, Outside}
@@ -55,3 +56,10 @@ pub turn_stops : (c : Config) (keys : List RootKeys) (s : Desk) (a b : Option (L
 turn_stops c keys s a b w w' text reading e u makes told k same =
     let alike = same_reaction c keys s text u.0 (moment_of reading s.now) u.2 in
     (u.0, reading, u.1, u.3, sym (ap (λ (r : Reaction). r.entry) alike) ∙ makes, told, k, same)
+
+pub desk_one : (s : Desk) (e : Option Entry) → desk_from s (one_more e []) ≡ desk_with s e
+desk_one s None = refl
+desk_one s (Some e) = refl
+
+pub same_entry : (o : Option Entry) (x y : Entry) → o ≡ Some x → o ≡ Some y → y ≡ x
+same_entry o x y one other = cc (one, other)

@@ -7,3 +7,5 @@ pub mod EndLemmas
 pub mod OpeningLemmas
 pub mod Alike
 pub mod WordLemmas
+pub mod MarkLemmas
+pub mod DeskLemmas

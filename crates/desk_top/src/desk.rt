@@ -110,6 +110,7 @@ fn with_vault<P: Keeper, E: BlockFn, D: BlockFn, T: Source, O: Sink, K: Clock, G
         }
     };
     let end = serve(alloc, limit, task, &mut book, input, out, clock);
+    book.sound();
     Ended {
         object: book.into_keeper(),
         end,

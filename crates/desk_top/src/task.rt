@@ -5,6 +5,7 @@ ghost use Rattle.std.specs.Prelude.{◌≡◌, ◌↔◌, ◌+◌, ◌^◌, ◌<
 ghost use Rattle.std.specs.Prelude.{Err, None, IfErr, IsErrOf, IfOk, OnOk};
 ghost use Rattle.std.specs.Io.KnownBytes.{Consumes};
 ghost use Rattle.wire_ids.specs.Causes.{Rose};
+ghost use Rattle.book.specs.Results.{MarksSo};
 ghost use Rattle.desk_top.specs.LastLines.{marked_line};
 ghost use Rattle.desk_top.specs.Tasks.{DeviceMarked, Does, HasRow};
 ghost use Rattle.desk_top.specs.declared.fault.Fault.TheVariants as fault;
@@ -52,6 +53,27 @@ fn marked_text(
     Ok(line)
 }
 
+// Suspends the device of this number, or resumes it.
+fn set_mark<P: Keeper, E: BlockFn, D: BlockFn>(
+    alloc: Global,
+    suspended: bool,
+    device: u32,
+    book: &mut Book<P, E, D>,
+    now: Moment,
+) -> Marked
+    requires whole { book.old.page.tried ≡ None }
+    requires device { device < length book.old.page.config.devices }
+    ensures marks { MarksSo (P.is_full book.old.page.keeper) result suspended device now.0
+        book.old book.new }
+    ensures later { book.old.page.faults ≤ book.new.page.faults }
+{
+    if suspended {
+        book.suspend(alloc, device, now)
+    } else {
+        book.resume(alloc, device, now)
+    }
+}
+
 // Suspends the device of this number, or resumes it, and prints what became of it. The lines are
 // made first, so that none is missing behind the mark.
 fn mark<P: Keeper, E: BlockFn, D: BlockFn, O: Sink, K: Clock>(
@@ -83,23 +105,23 @@ fn mark<P: Keeper, E: BlockFn, D: BlockFn, O: Sink, K: Clock>(
     ensures out_count { O.faults out.old ≤ O.faults out.new }
     ensures disk_count { book.old.page.faults ≤ book.new.page.faults }
 {
+    book.sound();
     let done = marked_text(alloc, suspended, false, eui)?;
     let already = marked_text(alloc, suspended, true, eui)?;
     let now = Moment(clock.now());
-    let marked = if suspended {
-        book.suspend(alloc, device, now)
-    } else {
-        book.resume(alloc, device, now)
-    };
-    let line = match marked {
-        Marked::Done => done,
-        Marked::Already => already,
-        Marked::Fault => return Err(Fault::Journal(Stop::Failed)),
-        Marked::Full => return Err(Fault::Journal(Stop::Full)),
-        Marked::Memory => return Err(Fault::Memory),
-    };
-    write_whole(out, &line)?;
-    Ok(())
+    match set_mark(alloc, suspended, device, book, now) {
+        Marked::Done => {
+            write_whole(out, &done)?;
+            Ok(())
+        }
+        Marked::Already => {
+            write_whole(out, &already)?;
+            Ok(())
+        }
+        Marked::Fault => Err(Fault::Journal(Stop::Failed)),
+        Marked::Full => Err(Fault::Journal(Stop::Full)),
+        Marked::Memory => Err(Fault::Memory),
+    }
 }
 
 /// Does the task on the desk of a book. The ends of the input's lines are looked for among its

@@ -77,6 +77,6 @@ no_write e kind is = subst IsOfBook is kind
 pub no_much : (e : Fault) → IsOfBook e → e ≡ TooMuch → ⊥
 no_much e kind is = subst IsOfBook is kind
 
-pub took_none : (left : Option (List ℕ)) (limit : ℕ) (e : Fault) → IsOfBook e
-    → (bytes : List ℕ) × Consumes left left bytes × ((Err {T = Unit {0}} e ≡ Err TooMuch) ↔ (limit < length bytes)) × (length bytes ≤ limit + 1)
-took_none left limit e kind = ([], Consumes_none left, (λ is. absurd (no_much e kind cc), λ l. absurd (omega (arith, l))), omega arith)
+pub took_none : (left : Option (List ℕ)) (limit : ℕ) (r : Result (Unit {0}) Fault) (e : Fault) → r ≡ Err e → IsOfBook e
+    → (bytes : List ℕ) × Consumes left left bytes × ((r ≡ Err TooMuch) ↔ (limit < length bytes)) × (length bytes ≤ limit + 1)
+took_none left limit r e is kind = ([], Consumes_none left, (λ much. absurd (no_much e kind (cc (is, much))), λ l. absurd (omega (arith, l))), omega arith)

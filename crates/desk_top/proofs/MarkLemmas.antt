@@ -9,23 +9,23 @@ use Rattle.desk_top.specs.Journals.{Grows, Outside}
 use Rattle.desk_top.specs.Tasks.{IsMarked, StaysUnmarked, is_suspended}
 use Rattle.desk_top.proofs.Growing.{grows_none}
 
-pub marked_done : (suspended : Bool) (device : ℕ) (s : Desk) (before now : Outside) (reading : ℕ) → (is_suspended device s ≡ suspended → ⊥) → Told before.clock now.clock (reading ∷ [])
+abbrev pub marked_done : (suspended : Bool) (device : ℕ) (s : Desk) (before now : Outside) (reading : ℕ) → (is_suspended device s ≡ suspended → ⊥) → Told before.clock now.clock (reading ∷ [])
     → Grows before.records now.records (mark_of suspended device (moment_of reading s.now) ∷ []) → IsMarked suspended device s before now
 marked_done suspended device s before now reading not clock grown = record {
   reading = reading;
   clock = clock;
   already = false;
-  so = (λ h. absurd h, λ is. absurd (not is));
+  so = (λ h. cc h, λ is. absurd (not is));
   records = grown;
 }
 
-pub marked_already : (suspended : Bool) (device : ℕ) (s : Desk) (before now : Outside) (reading : ℕ) → is_suspended device s ≡ suspended → Told before.clock now.clock (reading ∷ [])
+abbrev pub marked_already : (suspended : Bool) (device : ℕ) (s : Desk) (before now : Outside) (reading : ℕ) → is_suspended device s ≡ suspended → Told before.clock now.clock (reading ∷ [])
     → now.records ≡ before.records → IsMarked suspended device s before now
 marked_already suspended device s before now reading is clock same = record {
   reading = reading;
   clock = clock;
   already = true;
-  so = (λ h. is, λ is. tt);
+  so = (λ h. is, λ so. refl);
   records = same ∙ grows_none before.records;
 }
 

@@ -1,5 +1,6 @@
 -- How far a run comes: the first cause in time ends it.
-use Rattle.std.specs.Prelude.{◌≡◌, ◌⊎◌, ◌^◌, ℕ, List, Option, None, Some, Ok, Err, true, false}
+use Rattle.std.specs.Prelude.{◌≡◌, ◌⊎◌, ◌^◌, ℕ, List, Option, None, Some, Ok, Err, true, false, String}
+use Rattle.std.specs.declared.alloc.Global.{Global}
 use Rattle.wire_ids.specs.Causes.{Rose}
 use Rattle.wire_ids.specs.declared.eui.Eui.{Eui}
 use Rattle.agreements.specs.LookUps.{device_place}
@@ -111,6 +112,40 @@ Asks c Check asked = ⊥
 Asks c Answer asked = asked ≡ task.Answer
 Asks c (Suspend eui) asked = (device : ℕ) × (device_place eui c.devices ≡ Some device) × (asked ≡ task.Mark true device eui)
 Asks c (Resume eui) asked = (device : ℕ) × (device_place eui c.devices ≡ Some device) × (asked ≡ task.Mark false device eui)
+
+-- and whether anything
+abbrev pub AsksMaybe : Config → Command → Option Task → Type 0
+AsksMaybe c command None = command ≡ Check
+AsksMaybe c command (Some asked) = Asks c command asked
+
+-- the words are no list; `untouched` says that the tables weren't read
+pub record NoWords (words : List (String Global)) (untouched : Type 0) (fault : Fault) : Type 0 where
+  pub none : SpellsNone words
+  pub fault_is : fault ≡ Usage
+  pub tables : untouched
+
+-- the tables are refused, or couldn't be read
+pub record NoText (words : List (String Global)) (left : Option (List ℕ)) (before now : ℕ) (fault : Fault) : Type 0 where
+  pub command : Command
+  pub spells : Spells words command
+  pub why : Unopened left before now fault
+
+-- the device that is to be marked has no row in the tables
+pub record NoDeviceRow (words : List (String Global)) (left : Option (List ℕ)) (fault : Fault) : Type 0 where
+  pub command : Command
+  pub spells : Spells words command
+  pub config : Config
+  pub text : List ℕ
+  pub reads : ReadsText text_room left text
+  pub valid : tables_of text ≡ Ok config
+  pub agree : AgreeOver config
+  pub eui : Eui
+  pub marks : device_of command ≡ Some eui
+  pub missing : device_place eui config.devices ≡ None
+  pub told : TellsNoRow eui fault
+
+abbrev pub IsUnready : List (String Global) → Option (List ℕ) → ℕ → ℕ → Type 0 → Fault → Type 0
+IsUnready words left before now untouched fault = NoWords words untouched fault ⊎ NoText words left before now fault ⊎ NoDeviceRow words left fault
 
 -- The disk isn't taken as a journal. Neither the input nor the clock is read, and nothing is written.
 pub record NoJournal {S T O D K : Type 0} (run : Run S T O D K) (end : End) : Type 0 where

@@ -102,6 +102,10 @@ abbrev pub HasRow : Config → Task → Type 0
 HasRow c Answer = Unit {0}
 HasRow c (Mark suspended device eui) = device < length c.devices
 
+abbrev pub HasRowMaybe : Config → Option Task → Type 0
+HasRowMaybe c None = Unit {0}
+HasRowMaybe c (Some task) = HasRow c task
+
 -- The desk was opened on a journal, and the task done on it, or not to its end.
 pub record Serves (fills : List (List ℕ) → ℕ → ℕ → Type 0) (limit : ℕ) (task : Task) (c : Config) (text : List ℕ) (keys : List RootKeys) (input after : Option (List ℕ)) (before now : Outside) (doubted : Option Entry) (end : Result (Unit {0}) Fault) : Type 0 where
   pub opened : DeskOpened c text before

@@ -1,7 +1,7 @@
 //! The desk on its journal: opened on a keeper, with the keys of its tables.
 
 ghost use Rattle.std.specs.Prelude.{◌≡◌, ◌↔◌, ◌+◌, ◌^◌, ◌<◌, ◌≤◌, ◌⊎◌, List, ℕ, length, vec_len};
-ghost use Rattle.std.specs.Prelude.{Err, Ok, IsErrOf};
+ghost use Rattle.std.specs.Prelude.{Err, Ok, IfOk, IsErrOf};
 ghost use Rattle.std.specs.Io.KnownBytes.{Consumes};
 ghost use Rattle.wire_ids.specs.Causes.{Rose};
 ghost use Rattle.aes_cmac.specs.Aes.{encrypted, decrypted};
@@ -188,7 +188,10 @@ fn with_closures<P: Keeper, E: BlockFn, D: BlockFn, T: Source, O: Sink, K: Clock
 }
 
 // The keys of the tables, and the ring that encrypts and decrypts under them.
-fn keys_of(alloc: Global, tables: &Tables) -> Result<(Vec<RootKeys>, KeyRing), Memory> {
+fn keys_of(alloc: Global, tables: &Tables) -> Result<(Vec<RootKeys>, KeyRing), Memory>
+    ensures keys { IfOk result (λ p. p.0.items ≡ key_table tables.now) }
+    ensures ring { IfOk result (λ p. p.1 ≡ p.0.items) }
+{
     let keys = tables.root_keys(alloc)?;
     let ring = KeyRing::new(alloc, &keys)?;
     Ok((keys, ring))

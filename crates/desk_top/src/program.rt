@@ -1,4 +1,14 @@
-ghost use Rattle.std.specs.Prelude.{◌≡◌, ◌≤◌};
+ghost use Rattle.std.specs.Prelude.{◌≡◌, ◌≤◌, List, ℕ, length, Some, None, Ok, IfOk, IfErr};
+ghost use Rattle.std.specs.Io.KnownBytes.{Consumes};
+ghost use Rattle.wire_ids.specs.declared.eui.Eui.{Eui as Name};
+ghost use Rattle.agreements.specs.LookUps.{device_place};
+ghost use Rattle.agreements.specs.Walk.{tables_of};
+ghost use Rattle.roam_core.specs.Agreement.{AgreeOver};
+ghost use Rattle.desk_top.specs.Courses.{AsksMaybe, IsUnready, TellsNoRow, device_of};
+ghost use Rattle.desk_top.specs.Tasks.{HasRow, HasRowMaybe};
+ghost use Rattle.desk_top.specs.Text.{ReadsText, text_room};
+ghost use Rattle.desk_top.specs.Words.{Spells};
+ghost use Rattle.desk_top.specs.declared.words.Command.{Command as Asked};
 ghost use Rattle.desk_top.specs.Ends.{Ends};
 ghost use Rattle.desk_top.specs.Promises.{Promises};
 ghost use Rattle.desk_top.specs.Runs.{seen, seen_clock};
@@ -20,7 +30,14 @@ use std::sync::ledger::Ledger;
 use wire_ids::Eui;
 
 // The mark of a device, which has a row, or the fault that says that it has none.
-fn mark_of(alloc: Global, tables: &Tables, suspended: bool, eui: Eui) -> Result<Task, Fault> {
+fn mark_of(alloc: Global, tables: &Tables, suspended: bool, eui: Eui) -> Result<Task, Fault>
+    ensures row { IfOk result (λ task. (device : ℕ)
+        × (device_place eui tables.now.devices ≡ Some device)
+        × (task ≡ Task.Mark suspended device eui)) }
+    ensures few { IfOk result (HasRow tables.now) }
+    ensures none { IfErr result (λ fault. (device_place eui tables.now.devices ≡ None)
+        × TellsNoRow eui fault) }
+{
     match tables.device(eui) {
         Some((device, _)) => Ok(Task::Mark {
             suspended,
@@ -32,7 +49,12 @@ fn mark_of(alloc: Global, tables: &Tables, suspended: bool, eui: Eui) -> Result<
 }
 
 // What is to be done on the desk of these tables, or None where they are only checked.
-fn task_of(alloc: Global, tables: &Tables, command: Command) -> Result<Option<Task>, Fault> {
+fn task_of(alloc: Global, tables: &Tables, command: Command) -> Result<Option<Task>, Fault>
+    ensures asks { IfOk result (AsksMaybe tables.now command) }
+    ensures row { IfOk result (HasRowMaybe tables.now) }
+    ensures none { IfErr result (λ fault. (eui : Name) × (device_of command ≡ Some eui)
+        × (device_place eui tables.now.devices ≡ None) × TellsNoRow eui fault) }
+{
     match command {
         Command::Check => Ok(None),
         Command::Answer => Ok(Some(Task::Answer)),
@@ -83,7 +105,18 @@ fn prepare<S: Source>(
     alloc: Global,
     words: &[String],
     tables: &mut S,
-) -> Result<(TablesText, Option<Task>), Fault> {
+) -> Result<(TablesText, Option<Task>), Fault>
+    ensures text { IfOk result (λ p. ReadsText text_room (S.left tables.old) p.0.text) }
+    ensures valid { IfOk result (λ p. tables_of p.0.text ≡ Ok p.0.tables) }
+    ensures agree { IfOk result (λ p. AgreeOver p.0.tables) }
+    ensures asks { IfOk result (λ p. (command : Asked) × Spells words.now command
+        × AsksMaybe p.0.tables command p.1) }
+    ensures row { IfOk result (λ p. HasRowMaybe p.0.tables p.1) }
+    ensures unready { IfErr result (IsUnready words.now (S.left tables.old)
+        (S.faults tables.old) (S.faults tables.new) (tables.new ≡ tables.old)) }
+    ensures taken { (bytes : List ℕ) × Consumes (S.left tables.old) (S.left tables.new) bytes
+        × (length bytes ≤ text_room) }
+{
     let Some(command) = command_of(words) else {
         return Err(Fault::Usage);
     };

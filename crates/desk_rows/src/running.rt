@@ -12,6 +12,7 @@ use wire_ids::Memory;
 
 // How many bytes a disk takes, and how many calls.
 const DISK_ROOM: usize = 1 << 20;
+
 const DISK_CALLS: usize = 1 << 14;
 
 /// Bytes in memory, and behind them maybe one byte without end. It tells nothing.

@@ -9,3 +9,4 @@ pub mod Alike
 pub mod WordLemmas
 pub mod MarkLemmas
 pub mod DeskLemmas
+pub mod StatusLemmas

@@ -22,8 +22,8 @@ returns-in-Err-clause-runs g c =
         written = refl;
         cause = not_opened P.fills opened.tables opened.text c.now.result (P.records c.args.keeper) (P.faults c.args.keeper) (P.faults c.in-Err.field-0.object) c.in-Err.field-0.fault c.stop_of.result c.stop_of.ensures c.in-Err.ensures.cause c.in-Err.ensures.fails;
         images = λ rs told image holds.
-        let l : LeavesOnly P.moment P.held_since c.args.keeper c.in-Err.field-0.object (MayOpen opened.tables opened.text c.now.result rs) = c.in-Err.ensures.any_moment rs told in
-        l.each image (g.met.P.Keeper.now_is_since c.in-Err.field-0.object (P.moment c.args.keeper) image l.later holds);
+            let l : LeavesOnly P.moment P.held_since c.args.keeper c.in-Err.field-0.object (MayOpen opened.tables opened.text c.now.result rs) = c.in-Err.ensures.any_moment rs told in
+            l.each image (g.met.P.Keeper.now_is_since c.in-Err.field-0.object (P.moment c.args.keeper) image l.later holds);
       };
       input = refl;
     })

@@ -214,8 +214,8 @@ pub(crate) fn run_desk<P: Keeper, T: Source, O: Sink, K: Clock, G: Ledger>(
     requires rests { P.rests keeper }
     requires text { tables_of opened.text ≡ Ok opened.tables }
     requires row { HasRow opened.tables task }
-    ensures runs { (IsErrOf result.end Fault.Memory × (result.object ≡ keeper) × (input.new ≡ input.old)
-        × (out.new ≡ out.old) × (clock.new ≡ clock.old))
+    ensures runs { (IsErrOf result.end Fault.Memory × (result.object ≡ keeper)
+        × (input.new ≡ input.old) × (out.new ≡ out.old) × (clock.new ≡ clock.old))
         ⊎ RunsClosed P.fills opened.tables opened.text
         (record {
           clock = K.tells clock.old;

@@ -186,7 +186,8 @@ fn work<S: Source, T: Source, O: Sink, D: Disk, K: Clock, G: Ledger>(
 ///   differs from one.
 /// - 10: want of memory. Prints nothing.
 /// - 11: more than 2^30 bytes of input were taken. Prints `lwdesk: too much input`.
-/// - 12: an entry of the journal is none, or doesn't fit. Prints `lwdesk: bad entry` and its number.
+/// - 12: an entry of the journal is none, or doesn't fit. Prints `lwdesk: bad entry` and its
+///   number.
 /// - 13: the device that is to be marked has no row. Prints `lwdesk: no device` and its DevEUI.
 ///
 /// The first cause in time decides: the words, the tables, the device, the journal, the entries,

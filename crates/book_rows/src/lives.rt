@@ -152,14 +152,14 @@ fn stopped_after(alloc: Global, calls: u64) -> Result<(Given, Given), Fail> {
     let (first, left) = match JournalKeeper::open(alloc, FuseDisk::new(disk, calls)) {
         Err(held) => (None, held.object),
         Ok(keeper) => {
-            let (given, keeper) = keyed(alloc, keeper)?;
+            let (given, keeper) = lived(alloc, keeper)?;
             (Some(given), keeper.into_disk())
         }
     };
     let Ok(keeper) = JournalKeeper::open(alloc, left.into_disk()) else {
         return Err(Fail::from("no journal"));
     };
-    let (second, _) = keyed(alloc, keeper)?;
+    let (second, _) = lived(alloc, keeper)?;
     let first = match first {
         Some(given) => given,
         None => Given {
@@ -172,8 +172,15 @@ fn stopped_after(alloc: Global, calls: u64) -> Result<(Given, Given), Fail> {
 }
 
 // A life over a keeper, with the keys of the tables.
-fn keyed<K: Keeper + Drop>(alloc: Global, keeper: K) -> Result<(Given, K), Fail>
-    requires { K.rests keeper }
+fn keyed<K: Keeper + Drop, G: Ledger>(
+    alloc: Global,
+    keeper: K,
+    blank: Blank,
+) -> Result<(Given, K), Fail>
+    requires rests { K.rests keeper }
+    requires name { blank.name ≡ G.name }
+    requires parts { blank.parts ≡ G.parts }
+    requires some { 0 < blank.parts }
 {
     let Ok(tables) = read_tables(alloc, TABLES) else {
         return Err(Fail::from("tables"));
@@ -191,15 +198,14 @@ fn keyed<K: Keeper + Drop>(alloc: Global, keeper: K) -> Result<(Given, K), Fail>
         requires { i < length other }
         ensures { result ≡ decrypted (root_key other kind i) block }
     { other.decrypt(i, kind, block) };
-    life::<K, _, _, Brand>(
-        alloc,
-        keeper,
-        tables,
-        &keys,
-        encrypt,
-        decrypt,
-        Blank::new(1),
-    )
+    life::<K, _, _, G>(alloc, keeper, tables, &keys, encrypt, decrypt, blank)
+}
+
+// A life over a keeper.
+fn lived<K: Keeper + Drop>(alloc: Global, keeper: K) -> Result<(Given, K), Fail>
+    requires { K.rests keeper }
+{
+    keyed::<K, Brand>(alloc, keeper, Blank::new(1))
 }
 
 // However many calls the disk passes on, the second life answers each body that the first has
@@ -229,8 +235,8 @@ fn lives_go_on_after_each_stop(rt: HostRuntime) -> Result<(), Fail> {
 #[test]
 fn a_book_in_memory_answers(rt: HostRuntime) -> Result<(), Fail> {
     let alloc = rt.alloc();
-    let (first, keeper) = keyed(alloc, MemoryKeeper::new(alloc))?;
-    let (second, _) = keyed(alloc, keeper)?;
+    let (first, keeper) = lived(alloc, MemoryKeeper::new(alloc))?;
+    let (second, _) = lived(alloc, keeper)?;
     assert_eq!(rt; first.answers.len(), 2);
     assert!(rt; first.answers == second.answers);
     assert_eq!(rt; first.marked, Some(Marked::Done));

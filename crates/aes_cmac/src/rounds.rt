@@ -5,6 +5,7 @@ ghost use Rattle.aes_cmac.specs.Aes.{inv_sub_bytes, inv_shift_rows, inv_mix_colu
 ghost use Rattle.aes_cmac.specs.Basis.{to_basis, from_basis, inv_to_basis, affine_constant};
 ghost use Rattle.aes_cmac.specs.Basis.{moved, kept, kept_last, inv_moved, turned};
 ghost use Rattle.aes_cmac.specs.Columns.{next_round_key};
+ghost use Rattle.aes_cmac.specs.Mac.{zeros};
 
 use crate::nibbles::{added, by_halves, nested, permuted};
 use crate::tables::*;
@@ -78,11 +79,30 @@ pub(crate) fn last_round(x: u8x16, key: u8x16) -> u8x16
     turned_2(added(LAST_FIRST, LAST_SECOND, nested(x))) ^ key
 }
 
+// Zeros, whatever `x` is: a byte less its half is not more than the byte. LLVM doesn't find it out.
+#[inline(always)]
+pub(crate) fn unseen_zeros(x: u8x16) -> u8x16
+    ensures { result ≡ zeros }
+{
+    (x - (x >> u8x16::splat(1))).saturating_sub(x)
+}
+
+// The same places, which LLVM doesn't see to be constants: it would move a permutation by
+// constants into the look-ups before it, and so make many of one.
+#[inline(always)]
+fn unseen(places: [u8; 16], none: u8x16) -> [u8; 16]
+    requires { none ≡ zeros }
+    ensures { result ≡ places }
+{
+    (u8x16::from_array(places) ^ none).to_array()
+}
+
 // A full round of the inverse cipher, from a state after InvShiftRows to the next one's, which
 // stands turned by one less than `turn`.
 #[inline(always)]
-pub(crate) fn inv_full_round(x: u8x16, key: u8x16, turn: usize) -> u8x16
-    requires { turn < 4 }
+pub(crate) fn inv_full_round(x: u8x16, key: u8x16, turn: usize, none: u8x16) -> u8x16
+    requires turns { turn < 4 }
+    requires none { none ≡ zeros }
     ensures { (s k : List ℕ) → IsBlock s → IsBlock k → x ≡ inv_moved (turned turn s)
         → key ≡ kept (turned turn k)
         → result ≡ inv_moved (turned ((turn + 3) % 4)
@@ -93,8 +113,9 @@ pub(crate) fn inv_full_round(x: u8x16, key: u8x16, turn: usize) -> u8x16
     let eleven = by_halves(TIMES_11_LOW, TIMES_11_HIGH, y);
     let thirteen = by_halves(TIMES_13_LOW, TIMES_13_HIGH, y);
     let fourteen = by_halves(TIMES_14_LOW, TIMES_14_HIGH, y);
-    let two = thirteen ^ permuted(nine, UP_ONE[turn]);
-    (fourteen ^ permuted(eleven, UP_ONE[turn])) ^ permuted(two, UP_TWO[turn])
+    let up_one = unseen(UP_ONE[turn], none);
+    let two = thirteen ^ permuted(nine, up_one);
+    (fourteen ^ permuted(eleven, up_one)) ^ permuted(two, unseen(UP_TWO[turn], none))
 }
 
 #[inline(always)]

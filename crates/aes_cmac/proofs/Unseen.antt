@@ -1,5 +1,5 @@
 -- Zeros that come of any vector.
-use Rattle.std.proofs.Common.{◌≡◌, ℕ, zero, suc, ◌+◌, ◌-◌, ◌/◌, ◌%◌, ◌^◌, ◌<◌, Bool, cond, ltb, List, [], ◌∷◌, map, length, get_or, replicate, bit_xor, refl, ap, ◌∙◌, w8, Fits, arith}
+use Rattle.std.proofs.Common.{◌≡◌, ℕ, zero, suc, ◌+◌, ◌-◌, ◌/◌, ◌%◌, ◌^◌, ◌<◌, cond, ltb, List, [], ◌∷◌, map, length, get_or, replicate, bit_xor, refl, ap, ◌∙◌, w8, Fits, arith}
 use Rattle.std.specs.Int.Bits.{xor_zero_r}
 use Rattle.std.proofs.lemmas.Simd.{zip2_splat}
 use lib.Lanes.{zip2, sel_l, top, Each1}

@@ -4,9 +4,10 @@ use Rattle.std.specs.Io.KnownBytes.{Appends}
 use Rattle.desk_rows.specs.declared.case.Case.{Case}
 use Rattle.desk_rows.specs.declared.case.Outcome.{Outcome}
 
--- the run ended as it is wanted
-abbrev pub Passes : Outcome → Outcome → Type 0
-Passes got wanted = (got.status ≡ wanted.status) × (got.output.items ≡ wanted.output.items)
+-- these bytes are there, or nothing is said of them
+abbrev pub Holds : List ℕ → Option (Bor (Vec ℕ Global)) → Type 0
+Holds got None = Unit
+Holds got (Some wanted) = got ≡ wanted.now.items
 
 -- the line of a case that passed
 abbrev pub ok_line : List ℕ → List ℕ

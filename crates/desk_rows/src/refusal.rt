@@ -20,6 +20,8 @@ pub(crate) enum Why {
     NoReplace,
     /// What is to be replaced doesn't stand in the tables text.
     NotInTables,
+    /// No text above has this name.
+    NoText,
     /// Want of memory.
     Memory,
 }
@@ -35,6 +37,7 @@ impl Display for Why {
             Why::NoFile => "the file can't be read",
             Why::NoReplace => "`by` wants a line `replace` before it",
             Why::NotInTables => "the tables text has no such text",
+            Why::NoText => "no text above has this name",
             Why::Memory => "want of memory",
         })
     }

@@ -1,16 +1,18 @@
 ghost use Rattle.std.specs.Prelude.{◌≡◌, ◌<◌, None, IfOk, length};
 
-use crate::case::{Given, Outcome, Reads};
+use crate::case::{DiskCalls, Given, Outcome, Reads};
+use crate::journal::journal_in;
 use desk_top::run;
 use disk_model::{
-    ClosedLink, Failed, FixedClock, MemoryDisk, MemorySink, MemorySource, Ran, Source, Steps,
+    ClosedLink, Failed, FixedClock, FuseDisk, MemoryDisk, MemorySink, MemorySource, Ran, Source,
+    Steps,
 };
 use std::alloc::{AllocError, Global};
 use std::marker::Brand;
 use std::sync::ledger::{Blank, Ledger};
 use wire_ids::Memory;
 
-// How many bytes a disk takes, and how many calls.
+// How many bytes a disk takes beside those that it holds before the run, and how many calls.
 const DISK_ROOM: usize = 1 << 20;
 
 const DISK_CALLS: usize = 1 << 14;
@@ -65,19 +67,16 @@ fn failing(alloc: Global, passes: u64, fails: u64) -> Result<Vec<u64>, AllocErro
     Ok(calls)
 }
 
-// What the disk holds before the run: what the case before left, where it goes on, and then this.
-fn content_of(
+// The disk of a run: it holds this, and its calls go so.
+fn disk_of(
     alloc: Global,
-    goes_on: bool,
-    left: &[u8],
-    more: &[u8],
-) -> Result<Vec<u8>, AllocError> {
-    let mut content = Vec::new(alloc);
-    if goes_on {
-        content.extend_from_slice(left)?;
-    }
-    content.extend_from_slice(more)?;
-    Ok(content)
+    content: &[u8],
+    calls: DiskCalls,
+) -> Result<FuseDisk<MemoryDisk>, Memory> {
+    let failing = failing(alloc, calls.passes, calls.fails)?;
+    let room = content.len().saturating_add(DISK_ROOM);
+    let disk = MemoryDisk::new(alloc, content, room, DISK_CALLS, failing)?;
+    Ok(FuseDisk::new(disk, calls.stops))
 }
 
 fn counted<G: Ledger>(
@@ -99,14 +98,10 @@ fn counted<G: Ledger>(
         endless,
         moments,
         room,
-        goes_on,
-        disk: more,
-        disk_passes,
-        disk_fails,
+        disk,
+        disk_calls,
     } = given;
-    let content = content_of(alloc, goes_on, left, &more)?;
-    let failing = failing(alloc, disk_passes, disk_fails)?;
-    let disk = MemoryDisk::new(alloc, &content, DISK_ROOM, DISK_CALLS, failing)?;
+    let disk = disk_of(alloc, disk.as_deref().unwrap_or(left), disk_calls)?;
     let mut feed = Feed {
         bytes: source(input, input_reads),
         endless,
@@ -123,16 +118,16 @@ fn counted<G: Ledger>(
         &mut FixedClock::new(moments_of(alloc, moments)?),
         &mut Steps::<G>::new(blank),
     );
-    let output = out.written().to_vec(alloc)?;
-    let disk = Some(disks.content().to_vec(alloc)?);
+    let disk = disks.into_disk();
     Ok(Outcome {
         status,
-        output,
-        disk,
+        output: out.written().to_vec(alloc)?,
+        disk: disk.content().to_vec(alloc)?,
+        journal: journal_in(alloc, disk.content())?,
     })
 }
 
-/// How the program ends where it is given this, and where the case before left this on the disk.
+/// How the program ends where it is given this, and the run before left these bytes on the disk.
 pub(crate) fn outcome_of(alloc: Global, given: Given, left: &[u8]) -> Result<Outcome, Memory> {
     counted::<Brand>(alloc, given, left, Blank::new(1))
 }

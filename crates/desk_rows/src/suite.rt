@@ -2,24 +2,32 @@ ghost use Rattle.std.specs.Prelude.{ℕ, List, IfOk, string_bytes};
 ghost use Rattle.std.specs.Io.KnownBytes.{Appends};
 ghost use Rattle.desk_rows.specs.Verdicts.{PrintsAll, Says};
 
-use crate::case::Case;
+use crate::case::{Case, Given, Outcome};
 use crate::folder::{Folder, case_files};
 use crate::form::read_cases;
 use crate::refusal::Refused;
 use crate::running::outcome_of;
-use crate::verdict::{passes, verdict};
+use crate::verdict::{pass_all, verdict};
 use std::alloc::Global;
 use std::io::Write;
 use std::{fs, io};
 
-// Runs a case, where the one before left this on the disk, and prints what came of it. Whether it
-// went as it is wanted.
-fn run_case<W: Write>(
-    alloc: Global,
-    case: Case,
-    left: &mut Vec<u8>,
-    out: &mut W,
-) -> io::Result<bool>
+// Runs the runs of a case, each on what the one before left on the disk, and gives how they ended.
+fn run_all(alloc: Global, all: Vec<Given>) -> io::Result<Vec<Outcome>> {
+    let mut ended = Vec::new(alloc);
+    let mut left = Vec::new(alloc);
+    for given in all {
+        let Ok(got) = outcome_of(alloc, given, &left) else {
+            return Err(io::Error::from(io::ErrorKind::OutOfMemory));
+        };
+        left = got.disk.to_vec(alloc)?;
+        ended.push(got)?;
+    }
+    Ok(ended)
+}
+
+// Runs a case and prints what came of it. Whether it went as it is wanted.
+fn run_case<W: Write>(alloc: Global, case: Case, out: &mut W) -> io::Result<bool>
     ensures { IfOk result (λ passed. (lines : List ℕ) × Says passed (string_bytes case.name) lines
         × Appends (W.contents out.old) (W.contents out.new) lines) }
 {
@@ -28,13 +36,9 @@ fn run_case<W: Write>(
         given,
         wanted,
     } = case;
-    let Ok(got) = outcome_of(alloc, given, left) else {
-        return Err(io::Error::from(io::ErrorKind::OutOfMemory));
-    };
+    let got = run_all(alloc, given)?;
     out.write_all(&verdict(alloc, &name, &got, &wanted)?)?;
-    let passed = passes(&got, &wanted);
-    *left = got.disk.unwrap_or(Vec::new(alloc));
-    Ok(passed)
+    Ok(pass_all(&got, &wanted))
 }
 
 // Runs cases, one after another. Whether all went as they are wanted.
@@ -43,9 +47,8 @@ fn run_cases<W: Write>(alloc: Global, cases: Vec<Case>, out: &mut W) -> io::Resu
         (W.contents out.new)) }
 {
     let mut all = true;
-    let mut left = Vec::new(alloc);
     for case in cases {
-        all &= run_case(alloc, case, &mut left, out)?;
+        all &= run_case(alloc, case, out)?;
     }
     Ok(all)
 }

@@ -1,4 +1,4 @@
-use crate::case::Outcome;
+use crate::case::{Outcome, Wanted};
 use crate::folder::Folder;
 use crate::form::read_cases;
 use crate::refusal::{Refused, Why};
@@ -64,15 +64,21 @@ const VERDICTS: [(u8, &str, u8, &str, &str); 4] = [
 fn a_difference_is_shown_with_both_texts(rt: HostRuntime) -> Result<(), Fail> {
     let alloc = rt.alloc();
     for (got, output, wanted, wanted_output, text) in VERDICTS {
-        let got = Outcome {
+        let mut ended = Vec::new(alloc);
+        ended.push(Outcome {
             status: got,
             output: output.as_bytes().to_vec(alloc)?,
-        };
-        let wanted = Outcome {
+            disk: Vec::new(alloc),
+            journal: Vec::new(alloc),
+        })?;
+        let mut all = Vec::new(alloc);
+        all.push(Wanted {
             status: wanted,
             output: wanted_output.as_bytes().to_vec(alloc)?,
-        };
-        let said = verdict(alloc, "a", &got, &wanted)?;
+            disk: None,
+            journal: Some(Vec::new(alloc)),
+        })?;
+        let said = verdict(alloc, "a", &ended, &all)?;
         assert_eq!(rt; said.as_slice(), text.as_bytes());
     }
     Ok(())

@@ -1,25 +1,38 @@
 ghost use Rattle.std.specs.Prelude.{◌↔◌, IfOk, IsTrue, true, false};
-ghost use Rattle.desk_rows.specs.Verdicts.{Passes, Says};
+ghost use Rattle.desk_rows.specs.Verdicts.{Holds, Passes, PassAll, Says};
 
-use crate::case::Outcome;
+use crate::case::{Outcome, Wanted};
 use std::alloc::{AllocError, Global};
 
+// Whether these bytes are there, or nothing is said of them.
+fn holds(got: &[u8], wanted: Option<&Vec<u8>>) -> bool
+    ensures { IsTrue result ↔ Holds got.now wanted }
+{
+    match wanted {
+        Some(wanted) => got == wanted.as_slice(),
+        None => true,
+    }
+}
+
 /// Whether a run ended as it is wanted.
-pub(crate) fn passes(got: &Outcome, wanted: &Outcome) -> bool
+pub(crate) fn passes(got: &Outcome, wanted: &Wanted) -> bool
     ensures { IsTrue result ↔ Passes got.now wanted.now }
 {
     got.status == wanted.status
         && got.output.as_slice() == wanted.output.as_slice()
-        && is_left(got.disk.as_deref(), wanted.disk.as_deref())
+        && holds(&got.disk, wanted.disk.as_ref())
+        && holds(&got.journal, wanted.journal.as_ref())
 }
 
-// Whether the disk holds what is wanted, or nothing is said of it.
-fn is_left(got: Option<&[u8]>, wanted: Option<&[u8]>) -> bool {
-    match (got, wanted) {
-        (_, None) => true,
-        (None, Some(_)) => false,
-        (Some(got), Some(wanted)) => got == wanted,
-    }
+/// Whether runs ended as they are wanted, each, and there were as many.
+pub(crate) fn pass_all(got: &[Outcome], wanted: &[Wanted]) -> bool
+    ensures { IsTrue result ↔ PassAll got.now wanted.now }
+{
+    got.len() == wanted.len()
+        && got
+            .iter()
+            .zip(wanted.iter())
+            .all(|(got, wanted)| passes(got, wanted))
 }
 
 // The number of the first line in which two texts differ, from 0.
@@ -36,18 +49,29 @@ fn line_at(text: &[u8], at: usize) -> &[u8] {
     text.split(|byte| *byte == b'\n').nth(at).unwrap_or(b"")
 }
 
-// The statuses where they differ, and the first line in which the outputs do.
-fn differences(alloc: Global, got: &Outcome, wanted: &Outcome) -> Result<Vec<u8>, AllocError> {
+// The bytes of the disk or of the journal that are there, and those that are wanted.
+fn bytes_differ(
+    alloc: Global,
+    name: &str,
+    got: &[u8],
+    wanted: &Option<Vec<u8>>,
+    text: &mut Vec<u8>,
+) -> Result<(), AllocError> {
+    if holds(got, wanted.as_ref()) {
+        return Ok(());
+    }
+    let got = hex::encode(alloc, got)?;
+    let wanted = hex::encode(alloc, wanted.as_deref().unwrap_or(b""))?;
+    let both = format!(in alloc; "  {name}: {got}\n  wanted: {wanted}\n")?;
+    text.extend_from_slice(both.as_bytes())
+}
+
+// The statuses where they differ, the first line in which the outputs do, and the disk's bytes.
+fn differences(alloc: Global, got: &Outcome, wanted: &Wanted) -> Result<Vec<u8>, AllocError> {
     let mut text = Vec::new(alloc);
     if got.status != wanted.status {
         let statuses = format!(in alloc; "  status {}, wanted {}\n", got.status, wanted.status)?;
         text.extend_from_slice(statuses.as_bytes())?;
-    }
-    if !is_left(got.disk.as_deref(), wanted.disk.as_deref()) {
-        text.extend_from_slice(b"  the disk: ")?;
-        let disk = got.disk.as_deref().unwrap_or(b"");
-        text.extend_from_slice(hex::encode(alloc, disk)?.as_bytes())?;
-        text.extend_from_slice(b"\n")?;
     }
     if got.output.as_slice() != wanted.output.as_slice() {
         let at = first_difference(&got.output, &wanted.output);
@@ -58,26 +82,46 @@ fn differences(alloc: Global, got: &Outcome, wanted: &Outcome) -> Result<Vec<u8>
         text.extend_from_slice(line_at(&wanted.output, at))?;
         text.extend_from_slice(b"\n")?;
     }
+    bytes_differ(alloc, "disk", &got.disk, &wanted.disk, &mut text)?;
+    bytes_differ(alloc, "journal", &got.journal, &wanted.journal, &mut text)?;
     Ok(text)
 }
 
-/// What is printed of a case: its name, and that it passed, or how its outcome differs from the
-/// wanted one.
+// How each run that didn't end as it is wanted differs. Behind the first one the run's number
+// stands before it.
+fn all_differences(
+    alloc: Global,
+    got: &[Outcome],
+    wanted: &[Wanted],
+) -> Result<Vec<u8>, AllocError> {
+    let mut text = Vec::new(alloc);
+    for (number, (got, wanted)) in got.iter().zip(wanted.iter()).enumerate() {
+        if number > 0 && !passes(got, wanted) {
+            let run = number.saturating_add(1);
+            text.extend_from_slice(format!(in alloc; "  run {run}:\n")?.as_bytes())?;
+        }
+        text.extend_from_slice(&differences(alloc, got, wanted)?)?;
+    }
+    Ok(text)
+}
+
+/// What is printed of a case: its name, and that it passed, or how its outcomes differ from the
+/// wanted ones.
 pub(crate) fn verdict(
     alloc: Global,
     name: &str,
-    got: &Outcome,
-    wanted: &Outcome,
+    got: &[Outcome],
+    wanted: &[Wanted],
 ) -> Result<Vec<u8>, AllocError>
-    ensures passes { Passes got.now wanted.now
+    ensures passes { PassAll got.now wanted.now
         → IfOk result (λ text. Says true name.now text.items) }
-    ensures differs { (Passes got.now wanted.now → ⊥)
+    ensures differs { (PassAll got.now wanted.now → ⊥)
         → IfOk result (λ text. Says false name.now text.items) }
 {
-    if passes(got, wanted) {
+    if pass_all(got, wanted) {
         return Ok(format!(in alloc; "{name}: ok\n")?.into_bytes());
     }
     let mut text = format!(in alloc; "{name}: differs\n")?.into_bytes();
-    text.extend_from_slice(&differences(alloc, got, wanted)?)?;
+    text.extend_from_slice(&all_differences(alloc, got, wanted)?)?;
     Ok(text)
 }

@@ -117,10 +117,20 @@ impl Draft {
             "stops" => self.given.disk_calls.stops = number(said)?,
             "room" => self.given.room = number(said)?,
             "journal" => self.given.disk = Some(folder.read(said).or(Err(Why::NoFile))?),
+            "kept" => self.keep_disk(alloc)?,
             "status" => self.wanted.status = number::<u8>(said)?,
             "times" => self.times = number(said)?,
             _ => self.add_text(alloc, texts, word, said)?,
         }
+        Ok(())
+    }
+
+    // The disk is wanted as it is before the run.
+    fn keep_disk(&mut self, alloc: Global) -> Result<(), Why> {
+        let Some(disk) = &self.given.disk else {
+            return Err(Why::NoDisk);
+        };
+        self.wanted.disk = Some(disk.to_vec(alloc)?);
         Ok(())
     }
 

@@ -22,6 +22,8 @@ pub(crate) enum Why {
     NotInTables,
     /// No text above has this name.
     NoText,
+    /// What the disk holds before the run isn't said.
+    NoDisk,
     /// Want of memory.
     Memory,
 }
@@ -38,6 +40,7 @@ impl Display for Why {
             Why::NoReplace => "`by` wants a line `replace` before it",
             Why::NotInTables => "the tables text has no such text",
             Why::NoText => "no text above has this name",
+            Why::NoDisk => "no line above says what the disk holds",
             Why::Memory => "want of memory",
         })
     }

@@ -56,10 +56,23 @@ pub(crate) struct Wanted {
     pub(crate) journal: Option<Vec<u8>>,
 }
 
-/// Runs, one after another on one disk, and what is wanted of each.
+/// A run, and what is wanted of it.
+#[derive(Drop)]
+pub(crate) struct Life {
+    pub(crate) given: Given,
+    pub(crate) wanted: Wanted,
+}
+
+/// How a run ended, and what was wanted of it.
+#[derive(Drop)]
+pub(crate) struct Ended {
+    pub(crate) got: Outcome,
+    pub(crate) wanted: Wanted,
+}
+
+/// Runs, one after another on one disk.
 #[derive(Drop)]
 pub(crate) struct Case {
     pub(crate) name: String,
-    pub(crate) given: Vec<Given>,
-    pub(crate) wanted: Vec<Wanted>,
+    pub(crate) lives: Vec<Life>,
 }

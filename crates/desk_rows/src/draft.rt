@@ -1,4 +1,4 @@
-use crate::case::{Case, DiskCalls, Given, Reads, Wanted};
+use crate::case::{Case, DiskCalls, Given, Life, Reads, Wanted};
 use crate::folder::Folder;
 use crate::journal::add_tables;
 use crate::refusal::Why;
@@ -72,8 +72,7 @@ impl Draft {
         Ok(Draft {
             case: Case {
                 name: String::from_str(alloc, name)?,
-                given: Vec::new(alloc),
-                wanted: Vec::new(alloc),
+                lives: Vec::new(alloc),
             },
             given: usual(alloc, sample, Some(Vec::new(alloc)))?,
             wanted: usual_end(alloc),
@@ -90,8 +89,7 @@ impl Draft {
             wanted,
             ..
         } = self;
-        case.given.push(given)?;
-        case.wanted.push(wanted)?;
+        case.lives.push(Life { given, wanted })?;
         Ok(case)
     }
 
@@ -139,8 +137,7 @@ impl Draft {
         let next = usual(alloc, self.given.tables.to_vec(alloc)?, None)?;
         let given = mem::replace(&mut self.given, next);
         let wanted = mem::replace(&mut self.wanted, usual_end(alloc));
-        self.case.given.push(given)?;
-        self.case.wanted.push(wanted)?;
+        self.case.lives.push(Life { given, wanted })?;
         Ok(())
     }
 

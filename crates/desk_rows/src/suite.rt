@@ -2,7 +2,7 @@ ghost use Rattle.std.specs.Prelude.{ℕ, List, IfOk, string_bytes};
 ghost use Rattle.std.specs.Io.KnownBytes.{Appends};
 ghost use Rattle.desk_rows.specs.Verdicts.{PrintsAll, Says};
 
-use crate::case::{Case, Given, Outcome};
+use crate::case::{Case, Ended, Life};
 use crate::folder::{Folder, case_files};
 use crate::form::read_cases;
 use crate::refusal::Refused;
@@ -12,16 +12,17 @@ use std::alloc::Global;
 use std::io::Write;
 use std::{fs, io};
 
-// Runs the runs of a case, each on what the one before left on the disk, and gives how they ended.
-fn run_all(alloc: Global, all: Vec<Given>) -> io::Result<Vec<Outcome>> {
+// The lives of a case, each on what the one before left on the disk, and how they ended.
+fn live(alloc: Global, lives: Vec<Life>) -> io::Result<Vec<Ended>> {
     let mut ended = Vec::new(alloc);
     let mut left = Vec::new(alloc);
-    for given in all {
+    for life in lives {
+        let Life { given, wanted } = life;
         let Ok(got) = outcome_of(alloc, given, &left) else {
             return Err(io::Error::from(io::ErrorKind::OutOfMemory));
         };
         left = got.disk.to_vec(alloc)?;
-        ended.push(got)?;
+        ended.push(Ended { got, wanted })?;
     }
     Ok(ended)
 }
@@ -31,14 +32,10 @@ fn run_case<W: Write>(alloc: Global, case: Case, out: &mut W) -> io::Result<bool
     ensures { IfOk result (λ passed. (lines : List ℕ) × Says passed (string_bytes case.name) lines
         × Appends (W.contents out.old) (W.contents out.new) lines) }
 {
-    let Case {
-        name,
-        given,
-        wanted,
-    } = case;
-    let got = run_all(alloc, given)?;
-    out.write_all(&verdict(alloc, &name, &got, &wanted)?)?;
-    Ok(pass_all(&got, &wanted))
+    let Case { name, lives } = case;
+    let ended = live(alloc, lives)?;
+    out.write_all(&verdict(alloc, &name, &ended)?)?;
+    Ok(pass_all(&ended))
 }
 
 // Runs cases, one after another. Whether all went as they are wanted.

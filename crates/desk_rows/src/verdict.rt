@@ -1,12 +1,12 @@
 ghost use Rattle.std.specs.Prelude.{◌↔◌, IfOk, IsTrue, true, false};
 ghost use Rattle.desk_rows.specs.Verdicts.{Holds, Passes, PassAll, Says};
 
-use crate::case::{Outcome, Wanted};
+use crate::case::{Ended, Outcome, Wanted};
 use std::alloc::{AllocError, Global};
 
 // Whether these bytes are there, or nothing is said of them.
-fn holds(got: &[u8], wanted: Option<&Vec<u8>>) -> bool
-    ensures { IsTrue result ↔ Holds got.now wanted }
+fn holds(got: &[u8], wanted: &Option<Vec<u8>>) -> bool
+    ensures { IsTrue result ↔ Holds got.now wanted.now }
 {
     match wanted {
         Some(wanted) => got == wanted.as_slice(),
@@ -15,24 +15,21 @@ fn holds(got: &[u8], wanted: Option<&Vec<u8>>) -> bool
 }
 
 /// Whether a run ended as it is wanted.
-pub(crate) fn passes(got: &Outcome, wanted: &Wanted) -> bool
-    ensures { IsTrue result ↔ Passes got.now wanted.now }
+pub(crate) fn passes(ended: &Ended) -> bool
+    ensures { IsTrue result ↔ Passes ended.now.got ended.now.wanted }
 {
+    let Ended { got, wanted } = ended;
     got.status == wanted.status
         && got.output.as_slice() == wanted.output.as_slice()
-        && holds(&got.disk, wanted.disk.as_ref())
-        && holds(&got.journal, wanted.journal.as_ref())
+        && holds(&got.disk, &wanted.disk)
+        && holds(&got.journal, &wanted.journal)
 }
 
-/// Whether runs ended as they are wanted, each, and there were as many.
-pub(crate) fn pass_all(got: &[Outcome], wanted: &[Wanted]) -> bool
-    ensures { IsTrue result ↔ PassAll got.now wanted.now }
+/// Whether each run ended as it is wanted.
+pub(crate) fn pass_all(ended: &[Ended]) -> bool
+    ensures { IsTrue result ↔ PassAll ended.now }
 {
-    got.len() == wanted.len()
-        && got
-            .iter()
-            .zip(wanted.iter())
-            .all(|(got, wanted)| passes(got, wanted))
+    ended.iter().all(|ended| passes(ended))
 }
 
 // The number of the first line in which two texts differ, from 0.
@@ -57,7 +54,7 @@ fn bytes_differ(
     wanted: &Option<Vec<u8>>,
     text: &mut Vec<u8>,
 ) -> Result<(), AllocError> {
-    if holds(got, wanted.as_ref()) {
+    if holds(got, wanted) {
         return Ok(());
     }
     let got = hex::encode(alloc, got)?;
@@ -89,39 +86,29 @@ fn differences(alloc: Global, got: &Outcome, wanted: &Wanted) -> Result<Vec<u8>,
 
 // How each run that didn't end as it is wanted differs. Behind the first one the run's number
 // stands before it.
-fn all_differences(
-    alloc: Global,
-    got: &[Outcome],
-    wanted: &[Wanted],
-) -> Result<Vec<u8>, AllocError> {
+fn all_differences(alloc: Global, ended: &[Ended]) -> Result<Vec<u8>, AllocError> {
     let mut text = Vec::new(alloc);
-    for (number, (got, wanted)) in got.iter().zip(wanted.iter()).enumerate() {
-        if number > 0 && !passes(got, wanted) {
+    for (number, ended) in ended.iter().enumerate() {
+        if number > 0 && !passes(ended) {
             let run = number.saturating_add(1);
             text.extend_from_slice(format!(in alloc; "  run {run}:\n")?.as_bytes())?;
         }
-        text.extend_from_slice(&differences(alloc, got, wanted)?)?;
+        text.extend_from_slice(&differences(alloc, &ended.got, &ended.wanted)?)?;
     }
     Ok(text)
 }
 
-/// What is printed of a case: its name, and that it passed, or how its outcomes differ from the
-/// wanted ones.
-pub(crate) fn verdict(
-    alloc: Global,
-    name: &str,
-    got: &[Outcome],
-    wanted: &[Wanted],
-) -> Result<Vec<u8>, AllocError>
-    ensures passes { PassAll got.now wanted.now
-        → IfOk result (λ text. Says true name.now text.items) }
-    ensures differs { (PassAll got.now wanted.now → ⊥)
+/// What is printed of a case: its name, and that it passed, or how its runs differ from what is
+/// wanted.
+pub(crate) fn verdict(alloc: Global, name: &str, ended: &[Ended]) -> Result<Vec<u8>, AllocError>
+    ensures passes { PassAll ended.now → IfOk result (λ text. Says true name.now text.items) }
+    ensures differs { (PassAll ended.now → ⊥)
         → IfOk result (λ text. Says false name.now text.items) }
 {
-    if pass_all(got, wanted) {
+    if pass_all(ended) {
         return Ok(format!(in alloc; "{name}: ok\n")?.into_bytes());
     }
     let mut text = format!(in alloc; "{name}: differs\n")?.into_bytes();
-    text.extend_from_slice(&all_differences(alloc, got, wanted)?)?;
+    text.extend_from_slice(&all_differences(alloc, ended)?)?;
     Ok(text)
 }

@@ -225,8 +225,8 @@ impl Draft {
         }
     }
 
-    // Adds to what the disk holds before the run, to the journal that is wanted behind it, or to the
-    // bytes that are.
+    // Adds to what the disk holds before the run, to the journal that is wanted behind it, or to
+    // the bytes that are.
     fn add_to_disk(
         &mut self,
         alloc: Global,

@@ -122,8 +122,8 @@ pub(crate) fn add(all: &mut Vec<u8>, times: usize, bytes: &[u8]) -> Result<(), W
     Ok(())
 }
 
-/// Adds to the bytes of a disk, so many times: a record that stands in digits, the entry Tables of a
-/// moment with this tables text, or a text in another form.
+/// Adds to the bytes of a disk, so many times: a record that stands in digits, the entry Tables of
+/// a moment with this tables text, or a text in another form.
 pub(crate) fn add_in_form(
     alloc: Global,
     texts: &Texts,

@@ -1,0 +1,142 @@
+"""A case of the suite, written line by line: what is said to the desk, and what the second desk answers.
+
+The writer of a case says how each answer has to end (its Description, "" for Success), so the second desk is held to the rules twice.
+"""
+
+import json
+import os
+import tomllib
+
+from device import Device
+from second_desk import Desk
+
+TOP = os.path.dirname(os.path.dirname(os.path.abspath(__file__)))
+DATA = os.path.join(TOP, "crates", "desk_rows", "data")
+with open(os.path.join(TOP, "crates", "desk_main", "data", "sample.toml")) as f:
+    SAMPLE = f.read()
+
+FIRST, SECOND = "b000000000000001", "b000000000000002"
+JOIN_EUI, NET, FOREIGN = 0x70B3D57ED0000001, 0x13, 0x14
+BARE = '{"MessageType":"ErrorNotif","Result":{"Description":"message","ResultCode":"MalformedRequest"}}'
+CODES = {
+    "": "Success",
+    "message": "MalformedRequest",
+    "version": "InvalidProtocolVersion",
+    "sender": "UnknownSender",
+    "receiver": "UnknownReceiver",
+    "type": "MalformedRequest",
+    "size": "FrameSizeError",
+    "frame": "MalformedRequest",
+    "device": "UnknownDevEUI",
+    "address": "UnknownDevAddr",
+    "home": "ActivationDisallowed",
+    "suspended": "ActivationDisallowed",
+    "eui": "JoinReqFailed",
+    "mic": "MICFailed",
+    "counter": "JoinReqFailed",
+    "spent": "JoinReqFailed",
+    "addresses spent": "Other",
+    "session": "Other",
+}
+
+
+def device(i, home=NET):
+    """The i-th device of the sample tables."""
+    return Device(0x70B3D57ED0001000 + i, JOIN_EUI, bytes([i]) * 16, home)
+
+
+def request(members):
+    return json.dumps(members, separators=(",", ":"))
+
+
+def head(sender, receiver, transaction, kind):
+    return {
+        "ProtocolVersion": "1.1",
+        "SenderID": sender,
+        "ReceiverID": receiver,
+        "TransactionID": transaction,
+        "MessageType": kind,
+    }
+
+
+class Talk:
+    def __init__(self, name, note="", tables="", replace=(), clock=1000, journal=None):
+        self.said = [f"# {line}" for line in note.split("\n") if line] + [f"case {name}"]
+        text = SAMPLE
+        if tables:
+            with open(os.path.join(DATA, tables)) as f:
+                text = f.read()
+            self.said.append(f"tables {tables}")
+        for old, new in replace:
+            if old not in text:
+                raise ValueError(f"{name}: {old} isn't in the tables")
+            text = text.replace(old, new, 1)
+            self.said += ["replace " + old.replace("\n", "\\n"), ("by " + new.replace("\n", "\\n")).rstrip(" ")]
+        self.clock = clock
+        self.said.append(f"clock {clock}")
+        self.tables = text
+        self.net = tomllib.loads(text)["desk"]["net_id"]
+        self.desk = Desk(text, journal or (), clock)
+        self.transaction = 0
+
+    def say(self, line, wanted=""):
+        answer = self.desk.answer(line.encode(), self.clock).decode()
+        self.said += [f"> {line}", f"< {answer}"]
+        read = json.loads(answer)
+        got = read["Result"]
+        if (got["Description"], got["ResultCode"]) != (wanted, CODES[wanted]):
+            raise ValueError(f"{self.said[0:2]}: {wanted} was wanted of {line}, and got {answer}")
+        return read
+
+    def say_any(self, line):
+        answer = self.desk.answer(line.encode(), self.clock).decode()
+        self.said += [f"> {line}", f"< {answer}"]
+
+    def say_bare(self, line):
+        """A line that is no message: its answer has no head."""
+        self.say_any(line)
+        if self.said[-1] != "< " + BARE:
+            raise ValueError(f"{self.said[0:2]}: a bare answer was wanted, and got {self.said[-1]}")
+
+    def next_id(self):
+        self.transaction += 1
+        return self.transaction
+
+    def uplink_req(self, frame, rate=0, gateway=FIRST, **changes):
+        """The text of a gateway's request; a member that is changed to None isn't there."""
+        frame = frame if isinstance(frame, str) else frame.hex()
+        members = head(gateway, self.net, self.next_id(), "UplinkReq")
+        members.update({"PHYPayload": frame, "DataRate": rate}, **changes)
+        return request({k: v for k, v in members.items() if v is not None})
+
+    def hears(self, frame, wanted="", rate=0, gateway=FIRST, **changes):
+        return self.say(self.uplink_req(frame, rate, gateway, **changes), wanted)
+
+    def join(self, dev, addr=None, gateway=FIRST):
+        """A join that is accepted, and opened by the device."""
+        return self.activate(dev, dev.join(), addr, gateway)
+
+    def rejoin(self, dev, kind, addr=None, gateway=FIRST):
+        return self.activate(dev, dev.rejoin(kind), addr, gateway)
+
+    def activate(self, dev, frame, addr=None, gateway=FIRST):
+        answer = self.hears(frame, gateway=gateway)
+        dev.accept(bytes.fromhex(answer["PHYPayload"]))
+        if addr is not None and dev.session.addr != addr:
+            raise ValueError(f"{self.said[0:2]}: address {addr:08x} was wanted, and got {dev.session.addr:08x}")
+        return answer
+
+    def uplink(self, dev, wanted="", gateway=FIRST, rate=0, session=None, **parts):
+        """The device's next uplink, or one under an older session of it. Its frame is given."""
+        now = dev.session
+        dev.session = session or now
+        count = parts.get("count", dev.session.up)
+        frame = dev.uplink(parts.pop("payload", b"\x01\x02\x03\x04"), rate=rate, **parts)
+        dev.session = now
+        answer = self.hears(frame, wanted, rate, gateway)
+        if not wanted and answer["FCntUp"] != count:
+            raise ValueError(f"{self.said[0:2]}: FCntUp {count} was wanted: {answer}")
+        return frame
+
+    def text(self):
+        return "\n".join(self.said) + "\n"

@@ -7,6 +7,7 @@ import json
 import os
 import tomllib
 
+import entries
 from device import Device
 from second_desk import Desk
 
@@ -60,7 +61,10 @@ def head(sender, receiver, transaction, kind):
 
 
 class Talk:
-    def __init__(self, name, note="", tables="", replace=(), clock=1000, journal=None):
+    """A case in the making. `clock` is what the clock tells: a moment, or some; `before` the entries behind the tables."""
+
+    def __init__(self, name, note="", tables="", replace=(), clock=1000, before=None):
+        self.name = name
         self.said = [f"# {line}" for line in note.split("\n") if line] + [f"case {name}"]
         text = SAMPLE
         if tables:
@@ -72,31 +76,63 @@ class Talk:
                 raise ValueError(f"{name}: {old} isn't in the tables")
             text = text.replace(old, new, 1)
             self.said += ["replace " + old.replace("\n", "\\n"), ("by " + new.replace("\n", "\\n")).rstrip(" ")]
-        self.clock = clock
-        self.said.append(f"clock {clock}")
         self.tables = text
         self.net = tomllib.loads(text)["desk"]["net_id"]
-        self.desk = Desk(text, journal or (), clock)
         self.transaction = 0
+        records = []
+        if before is not None:
+            tables = {"tag": "Tables", "moment": 0, "text": text.encode()}
+            records = [entries.encoded(entry) for entry in [tables, *before]]
+            self.said += ["+t 0"] + [f"+e {record.hex()}" for record in records[1:]]
+        self.begin(records, clock)
+
+    def begin(self, records, clock):
+        clock = [clock] if isinstance(clock, int) else clock
+        self.said.append("clock " + " ".join(map(str, clock)))
+        self.moments, self.now = iter(clock[1:]), clock[0]
+        self.desk = Desk(self.tables, records, self.now)
+
+    def again(self, clock=1000):
+        """The program ends, and is started again on its journal."""
+        self.said.append("again")
+        self.begin(self.desk.records, clock)
+
+    def mark(self, word, dev, wanted, clock=1000):
+        """A run of `suspend` or `resume`."""
+        self.said += ["again", f"words {word} --tables T --journal J {dev.eui:016x}"]
+        self.begin(self.desk.records, clock)
+        said = self.desk.mark(word, dev.eui, self.now)
+        if said != f"{wanted} {dev.eui:016x}":
+            raise ValueError(f"{self.name}: {wanted} was wanted, and got {said}")
+        self.said.append(f"< {said}")
+
+    def entries_wanted(self, *tags):
+        """The journal as it is by now; these are the tags of its entries behind Tables and the first Opened."""
+        found = [entries.decoded(record) for record in self.desk.records]
+        got = tuple(entry["tag"] for entry in found[2:])
+        if got != tags:
+            raise ValueError(f"{self.name}: {tags} were wanted, and got {got}")
+        for entry, record in zip(found, self.desk.records, strict=True):
+            self.said.append(f"=t {entry['moment']}" if entry["tag"] == "Tables" else f"=e {record.hex()}")
 
     def say(self, line, wanted=""):
-        answer = self.desk.answer(line.encode(), self.clock).decode()
-        self.said += [f"> {line}", f"< {answer}"]
-        read = json.loads(answer)
+        read = json.loads(self.say_any(line))
         got = read["Result"]
         if (got["Description"], got["ResultCode"]) != (wanted, CODES[wanted]):
-            raise ValueError(f"{self.said[0:2]}: {wanted} was wanted of {line}, and got {answer}")
+            raise ValueError(f"{self.name}: {wanted} was wanted of {line}, and got {got}")
         return read
 
     def say_any(self, line):
-        answer = self.desk.answer(line.encode(), self.clock).decode()
+        self.now = next(self.moments, self.now)
+        answer = self.desk.answer(line.encode(), self.now).decode()
         self.said += [f"> {line}", f"< {answer}"]
+        return answer
 
     def say_bare(self, line):
         """A line that is no message: its answer has no head."""
-        self.say_any(line)
-        if self.said[-1] != "< " + BARE:
-            raise ValueError(f"{self.said[0:2]}: a bare answer was wanted, and got {self.said[-1]}")
+        answer = self.say_any(line)
+        if answer != BARE:
+            raise ValueError(f"{self.name}: a bare answer was wanted, and got {answer}")
 
     def next_id(self):
         self.transaction += 1
@@ -123,7 +159,7 @@ class Talk:
         answer = self.hears(frame, gateway=gateway)
         dev.accept(bytes.fromhex(answer["PHYPayload"]))
         if addr is not None and dev.session.addr != addr:
-            raise ValueError(f"{self.said[0:2]}: address {addr:08x} was wanted, and got {dev.session.addr:08x}")
+            raise ValueError(f"{self.name}: address {addr:08x} was wanted, and got {dev.session.addr:08x}")
         return answer
 
     def uplink(self, dev, wanted="", gateway=FIRST, rate=0, session=None, **parts):
@@ -135,7 +171,7 @@ class Talk:
         dev.session = now
         answer = self.hears(frame, wanted, rate, gateway)
         if not wanted and answer["FCntUp"] != count:
-            raise ValueError(f"{self.said[0:2]}: FCntUp {count} was wanted: {answer}")
+            raise ValueError(f"{self.name}: FCntUp {count} was wanted: {answer}")
         return frame
 
     def text(self):

@@ -31,7 +31,7 @@ use Rattle.ns_core.specs.Heard.{Heard, Join, Data, Neither, heard_of}
 use Rattle.ns_core.specs.Own.{own_context}
 use Rattle.ns_core.specs.Rules.{uplink_rules}
 use Rattle.ns_core.specs.Speakers.{Speaker, count_of, is_duplicate}
-use Rattle.ns_core.specs.Valid.{Count}
+use Rattle.ns_core.specs.declared.valid.Count.{Count}
 
 -- ---- joins and rejoins
 

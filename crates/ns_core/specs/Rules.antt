@@ -12,6 +12,7 @@ use Rattle.js_core.specs.Found.{Found}
 use Rattle.js_core.specs.Frames.{wrong_size}
 use Rattle.js_core.specs.Home.{not_home}
 use Rattle.js_core.specs.Rules as js
+use Rattle.js_core.specs.Rules.{numbers, these}
 use Rattle.js_core.specs.Steps.{used_seed}
 use Rattle.ns_core.specs.Heard.{Heard, Join, Data, Neither, heard_of}
 use Rattle.ns_core.specs.Own.{own_context}
@@ -90,3 +91,10 @@ uplink_rules_at c nwk m request heard =
 
 unfoldable pub uplink_rules : Config → (ℕ → List ℕ) → Machine → UplinkRequest → List (Rule Refusal)
 uplink_rules c nwk m request = uplink_rules_at c nwk m request (heard_of c m request.phy_payload)
+
+-- ---- the order of the rules
+
+-- they stand in the order of the table of refusals
+abbrev pub CausesAscend : Type 0
+CausesAscend = (c : Config) (nwk : ℕ → List ℕ) (m : Machine) (request : UplinkRequest)
+    → numbers (uplink_rules c nwk m request) ≡ these (8 ∷ 9 ∷ 10 ∷ 11 ∷ 13 ∷ 18 ∷ 19 ∷ 20 ∷ 21 ∷ 22 ∷ [])

@@ -1,21 +1,24 @@
 -- Who is heard under an address.
-use Rattle.std.specs.Prelude.{ℕ, List, slice_get, Bool, not, Option, Some, None, option_map, option_and_then, is_none, if◌then◌else◌, ◌||◌, ◌&&◌}
+use Rattle.std.specs.Prelude.{ℕ, ◌<◌, List, slice_get, Bool, not, Option, Some, None, option_map, option_and_then, is_none, if◌then◌else◌, ◌&&◌}
 use Rattle.std.specs.Str.{bytes_eq}
 use Rattle.wire_ids.specs.declared.address.DevAddr.{DevAddr}
 use Rattle.wire_ids.specs.declared.eui.Eui.{Eui}
 use Rattle.wire_ids.specs.declared.keys.SessionKeys.{SessionKeys}
 use Rattle.key_vault.specs.Keys.{network_keys}
+use Rattle.agreements.specs.Walk.{Config}
+use Rattle.agreements.specs.declared.rows.DeviceRow.{DeviceRow}
 use Rattle.contexts.specs.declared.context.Context.{Context}
 use Rattle.contexts.specs.declared.context.Origin.{Origin}
 use Rattle.contexts.specs.declared.context.Origin.TheVariants.{Given, Seeded}
 use Rattle.contexts.specs.declared.slots.Slots.{Slots}
 use Rattle.entry_codec.specs.LookUps.{live_context, slots_of}
 use Rattle.entry_codec.specs.Machine.{Machine}
-use Rattle.entry_codec.specs.declared.device.Device.{Device}
 use Rattle.entry_codec.specs.declared.parties.Holder.{Holder}
 use Rattle.entry_codec.specs.declared.parties.Holder.TheVariants as holder
 use Rattle.entry_codec.specs.declared.parties.LiveContext.{LiveContext}
-use Rattle.ns_core.specs.Valid.{Count, up_valid}
+use Rattle.ns_core.specs.Valid.{up_valid}
+use Rattle.ns_core.specs.declared.speaker.Speaking.{Speaking}
+use Rattle.ns_core.specs.declared.valid.Count.{Count}
 
 -- a device of the tables or a visitor, with one of its contexts
 pub record Speaker : Type 0 where
@@ -24,9 +27,9 @@ pub record Speaker : Type 0 where
   pub pending : Bool
   pub context : Context
 
-abbrev pub name_of : Holder → Machine → Option Eui
-name_of (holder.Device device) m = option_map (λ (d : Device). d.dev_eui) (slice_get m.devices device)
-name_of (holder.Visitor dev) m = Some dev
+abbrev pub name_of : Config → Holder → Option Eui
+name_of c (holder.Device device) = option_map (λ (row : DeviceRow). row.dev_eui) (slice_get c.devices device)
+name_of c (holder.Visitor dev) = Some dev
 
 abbrev pub in_slot : Bool → Slots → Option Context
 in_slot pending s = if pending then s.pending else s.active
@@ -39,13 +42,22 @@ speaker_with live None context = None
 speaker_with live (Some dev) None = None
 speaker_with live (Some dev) (Some context) = Some (record { holder = live.holder; dev_eui = dev; pending = live.pending; context = context })
 
-abbrev pub speaker_at : Option LiveContext → Machine → Option Speaker
-speaker_at None m = None
-speaker_at (Some live) m = speaker_with live (name_of live.holder m) (context_at live m)
+abbrev pub speaker_at : Config → Machine → Option LiveContext → Option Speaker
+speaker_at c m None = None
+speaker_at c m (Some live) = speaker_with live (name_of c live.holder) (context_at live m)
 
 -- who has the live context with this address
-unfoldable pub speaker_of : DevAddr → Machine → Option Speaker
-speaker_of addr m = speaker_at (live_context addr m) m
+unfoldable pub speaker_of : Config → Machine → DevAddr → Option Speaker
+speaker_of c m addr = speaker_at c m (live_context addr m)
+
+-- the same of the speaker that the code found
+abbrev pub speaker_now : Speaking → Speaker
+speaker_now s = record { holder = s.holder; dev_eui = s.dev_eui; pending = s.pending; context = s.context.now }
+
+-- a device is one of so many rows
+abbrev pub HasRow : ℕ → Holder → Type 0
+HasRow count (holder.Device device) = device < count
+HasRow count (holder.Visitor dev) = Unit {0}
 
 -- ---- keys
 

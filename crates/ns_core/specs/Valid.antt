@@ -9,11 +9,7 @@ use Rattle.data_frames.specs.Mics.{IsChannel, up_mic, without_mic}
 use Rattle.data_frames.specs.declared.uplink.DataUp.{DataUp}
 use Rattle.ns_core.specs.Frames.{acks, addr_of, mic_of, wire_of}
 use Rattle.ns_core.specs.Least.{least_from}
-
--- an uplink's full counter, and its channel
-pub record Count : Type 0 where
-  pub count : ℕ
-  pub channel : ℕ
+use Rattle.ns_core.specs.declared.valid.Count.{Count}
 
 -- ---- the counter
 

@@ -1,0 +1,5 @@
+pub mod Least
+mod Reading
+mod Counting
+mod Own
+mod Rules

@@ -177,3 +177,19 @@ pub valid_uplinks : ValidUplinks
 valid_uplinks keys c u rate few form =
     let fields = data_read u.whole.now (fields_of u) form in
     record { is = valid_is keys c u rate few fields; all = valid_by keys c u rate few fields }
+
+-- ---- a counter is above the last one
+
+counted_from : (keys : SessionKeys) (c : Context) (frame : List ℕ) (rate n : ℕ) (v : Count) (o : Option ℕ) → option_map (counted n) o ≡ Some v → v.count ≡ n
+counted_from keys c frame rate n v None e = absurd cc
+counted_from keys c frame rate n v (Some k) e = let same : counted n k ≡ v = cc in ap (λ (x : Count). x.count) (sym same)
+
+above_from : (keys : SessionKeys) (c : Context) (frame : List ℕ) (rate : ℕ) (v : Count) (o : Option ℕ) → full_count c.last (wire_of frame) ≡ o → valid_at keys c frame rate o ≡ Some v → IsAbove c.last v.count
+above_from keys c frame rate v None is e = absurd cc
+above_from keys c frame rate v (Some n) is e =
+    let same = counted_from keys c frame rate n v (channel_of keys frame n (conf_of (acks frame) c.conf) rate c.channels) e in
+    subst (IsAbove c.last) (sym same) (count_gives c.last (wire_of frame) n is).0.may.1
+
+pub counts_above : (keys : SessionKeys) (c : Context) (frame : List ℕ) (rate : ℕ) (v : Count) → up_valid keys c frame rate ≡ Some v → IsAbove c.last v.count
+unfolding up_valid
+counts_above keys c frame rate v e = above_from keys c frame rate v (full_count c.last (wire_of frame)) refl e

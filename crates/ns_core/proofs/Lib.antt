@@ -1,5 +1,7 @@
 pub mod Least
-mod Reading
-mod Counting
+pub mod Reading
+pub mod Counting
 mod Own
 mod Rules
+pub mod Cases
+pub mod Unread

@@ -20,6 +20,7 @@ from formulas import (
 )
 
 ADR, ADR_ACK_REQ, ACK = 128, 64, 32
+PENDING = 16
 
 
 class Session:
@@ -84,18 +85,20 @@ class Device:
         session.up = count + 1
         return text + up_mic(session.f, session.s, text, count, conf, rate, channel)
 
-    def hear(self, frame, ack=None):
-        """Takes a downlink: what it acknowledges has to be `ack`. Its counter is given."""
+    def hear(self, frame):
+        """Takes a downlink that comes behind its last uplink, and tells it: as "A7 confirmed ack pending", or "N0"."""
         session = self.session
         text, control = frame[:-4], frame[5]
-        port = len(frame) > 12
+        has_port = len(frame) > 12
         wire = number_at(frame, 6, 2)
-        count = session.next_down[port]
+        count = session.next_down[has_port]
         count += (wire - count) % 65536
-        conf = ack % 65536 if control & ACK else 0
+        conf = (session.up - 1) % 65536 if control & ACK else 0
         if down_mic(session.s, text, count, conf) != frame[-4:] or number_at(frame, 1, 4) != session.addr:
             raise ValueError("no downlink of this session")
-        session.next_down[port] = count + 1
+        session.next_down[has_port] = count + 1
+        told = [f"{'A' if has_port else 'N'}{count}"]
         if frame[0] == 0xA0:
             session.conf = count % 65536
-        return count
+            told.append("confirmed")
+        return " ".join(told + [word for bit, word in ((ACK, "ack"), (PENDING, "pending")) if control & bit])

@@ -64,6 +64,10 @@ def cf_list(v):
     return None if b is None or len(b) not in (0, 16) else b
 
 
+def truth(v):
+    return v if isinstance(v, bool) else None
+
+
 def session_id(v):
     b = hexed(v, 11)
     return None if b is None else (int.from_bytes(b[:8], "big"), int.from_bytes(b[8:], "big"))
@@ -95,7 +99,21 @@ TYPES = {
     "HomeNSReq": ("network", "eui", [("DevEUI", EUI)]),
     "UplinkReq": ("gateway", "net", [("PHYPayload", hexed), ("DataRate", below(8))]),
 }
-OPTIONAL = {"CFList": b""}
+# What an application sends down to a device; of a network's, which has a PHYPayload, no sender is served yet.
+XMIT = (
+    "application",
+    "net",
+    [
+        ("FRMPayload", hexed),
+        ("SessionKeyID", session_id),
+        ("DLMetaData.DevEUI", EUI),
+        ("DLMetaData.FPort", below(256)),
+        ("DLMetaData.FCntDown", below(2**32)),
+        ("DLMetaData.Confirmed", truth),
+    ],
+)
+XMIT_OF_NETWORKS = (None, "net", [("PHYPayload", hexed), ("ULMetaData.DataRate", below(8))])
+OPTIONAL = {"CFList": b"", "DLMetaData.Confirmed": False}
 
 
 def depth(body):
@@ -148,10 +166,11 @@ def members(v, forms):
     """The members of an object by their forms, in order; Gap at the first that is missing or ill-formed."""
     found = {}
     for member, form in forms:
-        if member in v:
-            found[member] = form(v[member])
-        else:
-            found[member] = OPTIONAL.get(member)
+        outer, _, inner = member.rpartition(".")
+        place = v.get(outer) if outer else v
+        if not isinstance(place, dict):
+            raise Gap(member)
+        found[member] = form(place[inner]) if inner in place else OPTIONAL.get(member)
         if found[member] is None:
             raise Gap(member)
     return found

@@ -28,7 +28,7 @@ from formulas import (
     up_mic,
     wrapped,
 )
-from messages import COMMON, LIMIT, TYPES, BadJson, Gap, digits, dumps, load, members, name
+from messages import COMMON, LIMIT, TYPES, XMIT, XMIT_OF_NETWORKS, BadJson, Gap, digits, dumps, load, members, name
 
 LAST_MOMENT = 2**53
 LAST_NONCE = 2**24 - 1
@@ -110,7 +110,7 @@ def session_name(d, seed):
 class Desk:
     """A desk over a tables text and the records of a journal. The entries of this life are in `written`."""
 
-    downlinks = False  # whether downlinks are sent
+    downlinks = False  # whether payloads are taken for devices, and downlinks are sent
 
     def __init__(self, tables, records=(), now=0):
         self.read_tables(tables)
@@ -234,26 +234,45 @@ class Desk:
         try:
             return self.decided(head, v, body, moment)
         except Refusal as refusal:
-            return answer_text(head, refusal)
+            return self.answer_text(head, refusal)
+
+    def type_of(self, kind, v):
+        """The kinds of the sender and of the receiver, and the members; None for a type that isn't served."""
+        if kind == "XmitDataReq" and self.downlinks:
+            return XMIT_OF_NETWORKS if "PHYPayload" in v else XMIT
+        return TYPES.get(kind)
+
+    def answer_text(self, head, refusal, more=None):
+        kind = head["MessageType"]
+        version = "1.1" if refusal and refusal.said == "version" else head["ProtocolVersion"]
+        return dumps({
+            "MessageType": kind[:-3] + "Ans" if self.type_of(kind, {}) else "ErrorNotif",
+            "ProtocolVersion": version,
+            "ReceiverID": name(head["SenderID"]),
+            "Result": result(refusal),
+            "SenderID": name(head["ReceiverID"]),
+            "TransactionID": head["TransactionID"],
+            **(more or {}),
+        })
 
     def decided(self, head, v, body, moment):
         kind, sender = head["MessageType"], head["SenderID"]
-        _, _, forms = TYPES.get(kind, (None, None, []))
+        of_type = self.type_of(kind, v)
         try:
-            m = members(v, forms)
+            m = members(v, of_type[2] if of_type else [])
         except Gap:
             raise Refusal("MalformedRequest", "message") from None
-        self.check_head(head)
+        self.check_head(head, of_type)
         for old, answer in self.kept.get(sender, []):
             if old == body:
                 return answer
         more, entry = getattr(self, kind)(m, head)
-        answer = answer_text(head, None, more)
+        answer = self.answer_text(head, None, more)
         if entry:
             self.write(dict(entry, sender=sender, body=body, answer=answer), moment)
         return answer
 
-    def check_head(self, head):
+    def check_head(self, head, of_type):
         if head["ProtocolVersion"] not in ("1.0", "1.1"):
             raise Refusal("InvalidProtocolVersion", "version")
         of, n = head["SenderID"]
@@ -266,7 +285,7 @@ class Desk:
         if sender is None:
             raise Refusal("UnknownSender", "sender")
         own = {"eui": self.join_euis, "net": [self.net]}
-        from_kind, to_kind, _ = TYPES.get(head["MessageType"], (None, None, None))
+        from_kind, to_kind, _ = of_type or (None, None, None)
         of, n = head["ReceiverID"]
         if to_kind not in (None, of) or n not in own[of]:
             raise Refusal("UnknownReceiver", "receiver")
@@ -435,6 +454,29 @@ class Desk:
             return 1, down_frame(s, c.addr, c.next_n, False, ack, bool(c.queue))
         return 0, None
 
+    def XmitDataReq(self, m, head):
+        if len(m["FRMPayload"]) > 242:
+            raise Refusal("FrameSizeError", "size")
+        d = self.devices.get(m["DLMetaData.DevEUI"])
+        if d is None or (d.home, d.app) != (self.net, head["SenderID"][1]):
+            raise Refusal("UnknownDevEUI", "device")
+        if not 1 <= m["DLMetaData.FPort"] <= 223:
+            raise Refusal("InvalidFPort", "port")
+        if d.active is None or m["SessionKeyID"] != (d.eui, d.active.seed[0]):
+            raise Refusal("XmitFailed", "session")
+        if m["DLMetaData.FCntDown"] < d.active.next_a:
+            raise Refusal("XmitFailed", "counter")
+        if len(d.active.queue) == ITEMS:
+            raise Refusal("XmitFailed", "queue full")
+        return {}, {
+            "tag": "Queue",
+            "device": d.number,
+            "number": m["DLMetaData.FCntDown"],
+            "port": m["DLMetaData.FPort"],
+            "confirmed": int(m["DLMetaData.Confirmed"]),
+            "payload": m["FRMPayload"],
+        }
+
     # Marks.
 
     def mark(self, word, dev, now):
@@ -450,20 +492,6 @@ def result(refusal):
     if refusal is None:
         return {"Description": "", "ResultCode": "Success"}
     return {"Description": refusal.said, "ResultCode": refusal.code}
-
-
-def answer_text(head, refusal, more=None):
-    kind = head["MessageType"]
-    version = "1.1" if refusal and refusal.said == "version" else head["ProtocolVersion"]
-    return dumps({
-        "MessageType": kind[:-3] + "Ans" if kind in TYPES else "ErrorNotif",
-        "ProtocolVersion": version,
-        "ReceiverID": name(head["SenderID"]),
-        "Result": result(refusal),
-        "SenderID": name(head["ReceiverID"]),
-        "TransactionID": head["TransactionID"],
-        **(more or {}),
-    })
 
 
 def step_entry(d, step, own):

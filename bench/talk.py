@@ -38,7 +38,9 @@ CODES = {
     "spent": "JoinReqFailed",
     "addresses spent": "Other",
     "session": "Other",
+    "port": "InvalidFPort",
 }
+XMIT_CODES = {"session": "XmitFailed", "counter": "XmitFailed", "queue full": "XmitFailed"}
 
 
 def device(i, home=NET):
@@ -118,7 +120,8 @@ class Talk:
     def say(self, line, wanted=""):
         read = json.loads(self.say_any(line))
         got = read["Result"]
-        if (got["Description"], got["ResultCode"]) != (wanted, CODES[wanted]):
+        codes = CODES | XMIT_CODES if read["MessageType"] == "XmitDataAns" else CODES
+        if (got["Description"], got["ResultCode"]) != (wanted, codes[wanted]):
             raise ValueError(f"{self.name}: {wanted} was wanted of {line}, and got {got}")
         return read
 
@@ -173,6 +176,31 @@ class Talk:
         if not wanted and answer["FCntUp"] != count:
             raise ValueError(f"{self.name}: FCntUp {count} was wanted: {answer}")
         return frame
+
+    def takes(self, dev, wanted, **parts):
+        """The device's next uplink, and what the downlink behind it is; None for none."""
+        self.uplink(dev, **parts)
+        answer = json.loads(self.said[-1][2:])
+        told = dev.hear(bytes.fromhex(answer["PHYPayload"])) if "PHYPayload" in answer else None
+        if told != wanted:
+            raise ValueError(f"{self.name}: {wanted} was wanted, and got {told}")
+
+    def xmit_req(self, dev, number, payload=b"\1\2", port=1, session=None, **changes):
+        """The text of an application's request; a member that is changed to None isn't there."""
+        members = head("a000000000000001", self.net, self.next_id(), "XmitDataReq")
+        seed = (session or dev.session).seed
+        meta = {"DevEUI": f"{dev.eui:016x}", "FPort": port, "FCntDown": number}
+        members.update({"FRMPayload": payload.hex(), "SessionKeyID": f"{dev.eui:016x}{seed[0]:06x}"})
+        for k, v in changes.items():
+            if k in ("DevEUI", "FPort", "FCntDown", "Confirmed"):
+                meta[k] = v
+            else:
+                members[k] = v
+        members.setdefault("DLMetaData", {k: v for k, v in meta.items() if v is not None})
+        return request({k: v for k, v in members.items() if v is not None})
+
+    def queues(self, dev, number, wanted="", **more):
+        return self.say(self.xmit_req(dev, number, **more), wanted)
 
     def text(self):
         return "\n".join(self.said) + "\n"

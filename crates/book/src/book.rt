@@ -103,7 +103,7 @@ impl<K: Keeper, E: BlockFn, D: BlockFn> Book<K, E, D> {
     pub fn sound(&self)
         ensures page { IsPage K.records K.counted K.rests K.doubts self.now.page }
         ensures book { IsBook self.now }
-        ensures faults { self.now.page.faults ≡ K.faults self.now.page.keeper }
+        ensures faults { K.faults self.now.page.keeper ≡ self.now.page.faults }
         ensures held { self.now.page.tried ≡ None → WhereTold self.now.page.records
             (HoldsOnly (K.holds self.now.page.keeper)) }
     {

@@ -240,7 +240,7 @@ impl<K: Keeper> Pages<K> {
     /// What holds of all pages.
     pub(crate) fn sound(&self)
         ensures page { IsPage K.records K.counted K.rests K.doubts self.now }
-        ensures faults { self.now.faults ≡ K.faults self.now.keeper }
+        ensures faults { K.faults self.now.keeper ≡ self.now.faults }
     {
         let _ = &self.keeper;
     }

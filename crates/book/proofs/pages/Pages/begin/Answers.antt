@@ -2,6 +2,7 @@ use Rattle.std.proofs.Common.{◌≡◌, ℕ, Some, refl, sym, ap, subst, ◌∙
 use Rattle.std.specs.Prelude.{◌==◌}
 use Rattle.disk_model.proofs.Moments.{weaker}
 use Rattle.entry_codec.specs.Replay.{AllFit}
+use Rattle.keepers.proofs.Runs.{quiet_none}
 use Rattle.roam_core.specs.Desk.{Desk, moment_of}
 use Rattle.book.specs.Opening.{opening}
 use Rattle.book.specs.Pages.{AddsSome}
@@ -46,3 +47,13 @@ returns-in-Done-clause-fit g c =
     let count : c.entries-entries.result ≡ m.entries = c.entries-entries.ensures ∙ ap (λ (d : Desk). d.now.entries) c.state.ensures in
     let time = c.sound.ensures.page.time in
     opening_fits m (m.entries == 0) c.args.text (moment_of c.args.now.0 m) refl (omega arith) (omega (arith, time)) (omega (arith, count))
+
+pub returns-then-entries-ge-MOST_ENTRIES-clause-left : goal.returns-then-entries-ge-MOST_ENTRIES-clause-left
+returns-then-entries-ge-MOST_ENTRIES-clause-left g c =
+    let K = g.K.Keeper in
+    quiet_none K.records K.holds K.moment K.held_since c.args.self.now.keeper
+
+pub returns-in-Err-clause-left : goal.returns-in-Err-clause-left
+returns-in-Err-clause-left g c =
+    let K = g.K.Keeper in
+    quiet_none K.records K.holds K.moment K.held_since c.args.self.now.keeper

@@ -128,6 +128,12 @@ module _ {K : Type 0} where
   book_over full b [] is are = is
   book_over full b (call ∷ calls) is are = book_over full call.new calls are.0.book are.1
 
+  since : (c : Config) (keys : List RootKeys) (before after : List (List ℕ)) (b : Sight K) → b.page.config ≡ c → b.fixed.keys ≡ keys → b.fixed.opened ≡ length before → IsLegalSince b.page.config b.fixed.keys b.fixed.opened after → IsLegalSince c keys (length before) after
+  since c keys before after b config same opened legal =
+      subst (λ (d : Config). IsLegalSince d keys (length before) after) config
+      (subst (λ (k : List RootKeys). IsLegalSince b.page.config k (length before) after) same
+      (subst (λ (n : ℕ). IsLegalSince b.page.config b.fixed.keys n after) opened legal))
+
   -- what an image holds of a book is what a life leaves
   life_of : (records_in : K → Image) (counted : K → ℕ) (rests : K → Type 0) (doubts : K → List ℕ → Type 0) (c : Config) (keys : List RootKeys) (before after : List (List ℕ)) (b : Sight K) (receipts : List Receipt) → IsBook b → IsPage records_in counted rests doubts b.page → Grown c keys before b receipts → MayHold b after
       → IsLife c keys (record { before = before; after = after; receipts = receipts })
@@ -152,12 +158,6 @@ module _ {K : Type 0} where
         good = subst (λ (l : List (List ℕ)). AllByRecursion (IsGood c keys l) receipts) (append_assoc before g.more (encode_of e ∷ []) ∙ sym whole)
             (all_on c keys (before ++ g.more) (encode_of e ∷ []) legal.entries receipts (ap entries_of (append_assoc before g.more (encode_of e ∷ []) ∙ sym whole) ∙ legal.spelled) g.good);
       }
-    where
-      since : (c : Config) (keys : List RootKeys) (before after : List (List ℕ)) (b : Sight K) → b.page.config ≡ c → b.fixed.keys ≡ keys → b.fixed.opened ≡ length before → IsLegalSince b.page.config b.fixed.keys b.fixed.opened after → IsLegalSince c keys (length before) after
-      since c keys before after b config same opened legal =
-          subst (λ (d : Config). IsLegalSince d keys (length before) after) config
-          (subst (λ (k : List RootKeys). IsLegalSince b.page.config k (length before) after) same
-          (subst (λ (n : ℕ). IsLegalSince b.page.config b.fixed.keys n after) opened legal))
 
 pub calls_live : {K : Type 0} (records_in : K → Image) (counted : K → ℕ) (rests : K → Type 0) (doubts : K → List ℕ → Type 0) (full : K → ℕ → ℕ → Type 0) → CallsLive records_in counted rests doubts full
 calls_live records_in counted rests doubts full before more after b calls told opened is are p holds =

@@ -27,19 +27,19 @@ use Rattle.book.proofs.Living.{all_on}
 
 -- what one call leaves of what it was called on
 record Goes {K : Type 0} (old new : Sight K) : Type 0 where
-  es : List Entry
-  records : new.page.records ≡ option_map (λ (rs : List (List ℕ)). rs ++ map encode_of es) old.page.records
-  config : new.page.config ≡ old.page.config
-  fixed : new.fixed ≡ old.fixed
+  pub es : List Entry
+  pub records : new.page.records ≡ option_map (λ (rs : List (List ℕ)). rs ++ map encode_of es) old.page.records
+  pub config : new.page.config ≡ old.page.config
+  pub fixed : new.fixed ≡ old.fixed
 
 -- what some calls leave of what was opened on these records
 record Grown {K : Type 0} (c : Config) (keys : List RootKeys) (before : List (List ℕ)) (b : Sight K) (receipts : List Receipt) : Type 0 where
-  more : List (List ℕ)
-  records : b.page.records ≡ Some (before ++ more)
-  config : b.page.config ≡ c
-  keys_are : b.fixed.keys ≡ keys
-  opened : b.fixed.opened ≡ length before
-  good : AllByRecursion (IsGood c keys (before ++ more)) receipts
+  pub more : List (List ℕ)
+  pub records : b.page.records ≡ Some (before ++ more)
+  pub config : b.page.config ≡ c
+  pub keys_are : b.fixed.keys ≡ keys
+  pub opened : b.fixed.opened ≡ length before
+  pub good : AllByRecursion (IsGood c keys (before ++ more)) receipts
 
 none_new : (o : Image) → o ≡ option_map (λ (rs : List (List ℕ)). rs ++ []) o
 none_new None = refl

@@ -1,13 +1,13 @@
-use Rattle.std.proofs.Common.{◌≡◌, ℕ, Some, refl, sym, ap, subst, ◌∙◌, arith}
+use Rattle.std.proofs.Common.{◌≡◌, ℕ, map, Some, refl, sym, ap, subst, ◌∙◌, arith}
 use Rattle.std.specs.Prelude.{◌==◌}
 use Rattle.disk_model.proofs.Moments.{weaker}
 use Rattle.entry_codec.specs.Replay.{AllFit}
 use Rattle.keepers.proofs.Runs.{quiet_none}
 use Rattle.roam_core.specs.Desk.{Desk, moment_of}
-use Rattle.book.specs.Opening.{opening}
-use Rattle.book.specs.Pages.{AddsSome}
+use Rattle.book.specs.Opening.{opening, opening_at}
+use Rattle.book.specs.Pages.{AddsSome, entry_in}
 use Rattle.book.proofs.Entering.{opening_fits}
-use Rattle.book.proofs.Openings.{short_text}
+use Rattle.book.proofs.Openings.{count_stopped, short_text}
 use Rattle.book.proofs.Running.{none_yet, stood}
 use Rattle.book.proofs.pages.Pages.begin.Goals as goal
 
@@ -57,3 +57,10 @@ pub returns-in-Err-clause-left : goal.returns-in-Err-clause-left
 returns-in-Err-clause-left g c =
     let K = g.K.Keeper in
     quiet_none K.records K.holds K.moment K.held_since c.args.self.now.keeper
+
+pub returns-in-NotKept-clause-count_left : goal.returns-in-NotKept-clause-count_left
+returns-in-NotKept-clause-count_left g c =
+    let self = c.args.self.now in
+    let count : c.entries-entries.result ≡ self.desk.now.entries = c.entries-entries.ensures ∙ ap (λ (d : Desk). d.now.entries) c.state.ensures in
+    let at = c.moment-moment.ensures in
+    count_stopped c.args.text c.args.now.0 (map entry_in c.in-Ok.drafts.items) self c.write.new.self (c.in-Ok.ensures.drafts ∙ (λ i. opening_at (count i == 0) c.args.text (at i))) c.in-NotKept.ensures.writes.0

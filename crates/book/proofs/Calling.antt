@@ -45,9 +45,9 @@ none_new : (o : Image) → o ≡ option_map (λ (rs : List (List ℕ)). rs ++ []
 none_new None = refl
 none_new (Some x) = ap Some (sym (append-nil x))
 
-all_append : {P : Receipt → Type 0} (a b : List Receipt) → AllByRecursion P a → AllByRecursion P b → AllByRecursion P (a ++ b)
-all_append [] b first second = second
-all_append (r ∷ a) b first second = (first.0, all_append a b first.1 second)
+all_append : (P : Receipt → Type 0) (a b : List Receipt) → AllByRecursion P a → AllByRecursion P b → AllByRecursion P (a ++ b)
+all_append P [] b first second = second
+all_append P (r ∷ a) b first second = (first.0, all_append P a b first.1 second)
 
 module _ {K : Type 0} where
   goes_by : (es : List Entry) (doubted : Option Entry) (old new : Sight K) → Adds es doubted old.page new.page → new.fixed ≡ old.fixed → Goes old new
@@ -113,7 +113,7 @@ module _ {K : Type 0} where
         config = config;
         keys_are = same;
         opened = ap (λ (f : Fixed). f.opened) goes.fixed ∙ g.opened;
-        good = all_append receipts call.receipts
+        good = all_append (IsGood c keys whole) receipts call.receipts
             (subst (λ (rs : List (List ℕ)). AllByRecursion (IsGood c keys rs) receipts) parts (all_on c keys (before ++ g.more) new legal.entries receipts (ap entries_of parts ∙ legal.spelled) g.good))
             (given_good full c keys old call whole config same told is.does);
       }

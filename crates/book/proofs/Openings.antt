@@ -122,11 +122,11 @@ unless fault.Full p = p
 unless fault.Memory p = p
 
 pub unless_then : {P Q : Type 0} (f : BookFault) → (P → Q) → UnlessFailed P f → UnlessFailed Q f
-unless_then fault.KeeperFault then p = tt
-unless_then (fault.BadEntry n) then p = then p
-unless_then fault.OtherTables then p = then p
-unless_then fault.Full then p = then p
-unless_then fault.Memory then p = then p
+unless_then fault.KeeperFault goes p = tt
+unless_then (fault.BadEntry n) goes p = goes p
+unless_then fault.OtherTables goes p = goes p
+unless_then fault.Full goes p = goes p
+unless_then fault.Memory goes p = goes p
 
 pub count_same : (f : BookFault) (before now : ℕ) → now ≡ before → CountLeft before now f
 count_same fault.KeeperFault before now is = (omega (arith, is), omega (arith, is))

@@ -1,6 +1,5 @@
 -- A run of a book's calls, one after another, and what an image may hold of it then.
 use Rattle.std.specs.Prelude.{◌≡◌, ◌⊎◌, ℕ, List, [], ◌∷◌, ◌++◌, length, Some, Bool}
-use Rattle.disk_model.specs.Disk.{WhereTold}
 use Rattle.entries.specs.Entries.{encode_of}
 use Rattle.entries.specs.declared.entry.Entry.{Entry}
 use Rattle.keepers.specs.Keeper.{Image}

@@ -23,13 +23,22 @@ pub(crate) struct Given {
     pub(crate) moments: Vec<u64>,
     /// How many bytes the output takes.
     pub(crate) room: usize,
+    /// Whether the disk holds what the case before left on it.
+    pub(crate) goes_on: bool,
+    /// What the disk holds, behind that.
+    pub(crate) disk: Vec<u8>,
+    /// How many calls of the disk pass, and how many behind them fail.
+    pub(crate) disk_passes: u64,
+    pub(crate) disk_fails: u64,
 }
 
-/// How a run ends: its status, and all that it printed.
+/// How a run ends: its status, all that it printed, and what the disk holds then. A case that
+/// doesn't say what is wanted on the disk passes with anything there.
 #[derive(Drop)]
 pub(crate) struct Outcome {
     pub(crate) status: u8,
     pub(crate) output: Vec<u8>,
+    pub(crate) disk: Option<Vec<u8>>,
 }
 
 /// A run, and what is wanted of it.

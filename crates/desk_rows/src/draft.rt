@@ -44,10 +44,15 @@ impl Draft {
                     endless: None,
                     moments: Vec::new(alloc),
                     room: USUAL_ROOM,
+                    goes_on: false,
+                    disk: Vec::new(alloc),
+                    disk_passes: 0,
+                    disk_fails: 0,
                 },
                 wanted: Outcome {
                     status: 0,
                     output: Vec::new(alloc),
+                    disk: None,
                 },
             },
             times: 1,
@@ -74,6 +79,7 @@ impl Draft {
             "pieces" => self.set_pieces(said)?,
             "fails" => self.set_fails(said)?,
             "room" => given.room = number(said)?,
+            "journal" => given.goes_on = goes_on(said)?,
             "status" => self.case.wanted.status = number::<u8>(said)?,
             "times" => self.times = number(said)?,
             _ => self.add_text(alloc, word, said)?,
@@ -105,13 +111,19 @@ impl Draft {
         Ok(())
     }
 
-    // How many reads of a source pass, and how many fail behind them.
+    // How many reads of a source or calls of the disk pass, and how many fail behind them.
     fn set_fails(&mut self, said: &str) -> Result<(), Why> {
-        let (source, plan) = said.split_once(' ').unwrap_or((said, ""));
+        let (object, plan) = said.split_once(' ').unwrap_or((said, ""));
         let (passes, fails) = plan.split_once(' ').unwrap_or((plan, ""));
-        let reads = self.reads_of(source)?;
-        reads.passes = number(passes)?;
-        reads.fails = number(fails)?;
+        let (passes, fails) = (number(passes)?, number(fails)?);
+        if object == "disk" {
+            self.case.given.disk_passes = passes;
+            self.case.given.disk_fails = fails;
+            return Ok(());
+        }
+        let reads = self.reads_of(object)?;
+        reads.passes = passes;
+        reads.fails = fails;
         Ok(())
     }
 
@@ -119,7 +131,7 @@ impl Draft {
         match source {
             "tables" => Ok(&mut self.case.given.tables_reads),
             "input" => Ok(&mut self.case.given.input_reads),
-            "disk" | "link" => Err(Why::NotServed),
+            "link" => Err(Why::NotServed),
             _ => Err(Why::UnknownWord),
         }
     }
@@ -141,8 +153,15 @@ impl Draft {
                 &bytes(alloc, form, said)?,
             );
         }
+        if let Some(form) = sign.strip_prefix('+') {
+            return add(&mut given.disk, times, &bytes(alloc, form, said)?);
+        }
+        if let Some(form) = sign.strip_prefix('=') {
+            let wanted = self.case.wanted.disk.get_or_insert(Vec::new(alloc));
+            return add(wanted, times, &bytes(alloc, form, said)?);
+        }
         match sign {
-            "journal" | "=" | "=x" | "+" | "+x" | "@" | "@x" | "@!" => Err(Why::NotServed),
+            "@" | "@x" | "@!" => Err(Why::NotServed),
             _ => Err(Why::UnknownWord),
         }
     }
@@ -166,6 +185,15 @@ fn tables_named(folder: Folder<'_>, name: &str) -> Result<Vec<u8>, Why> {
         "sample" => Ok(SAMPLE_TABLES.as_bytes().to_vec(folder.alloc())?),
         "" => Ok(Vec::new(folder.alloc())),
         name => folder.read(name).or(Err(Why::NoFile)),
+    }
+}
+
+// Whether the disk goes on with what the case before left.
+fn goes_on(said: &str) -> Result<bool, Why> {
+    match said {
+        "before" => Ok(true),
+        "" => Ok(false),
+        _ => Err(Why::UnknownWord),
     }
 }
 

@@ -3,12 +3,17 @@ ghost use Rattle.std.specs.Prelude.{◌≡◌, ◌<◌, None, IfOk, length};
 use crate::case::{Given, Outcome, Reads};
 use desk_top::run;
 use disk_model::{
-    ClosedDisk, ClosedLink, Failed, FixedClock, MemorySink, MemorySource, Ran, Source, Steps,
+    ClosedLink, Failed, FixedClock, MemoryDisk, MemorySink, MemorySource, Ran, Source, Steps,
 };
 use std::alloc::{AllocError, Global};
 use std::marker::Brand;
 use std::sync::ledger::{Blank, Ledger};
 use wire_ids::Memory;
+
+// How many bytes a disk takes, and how many calls.
+const DISK_ROOM: usize = 1 << 20;
+
+const DISK_CALLS: usize = 1 << 14;
 
 /// Bytes in memory, and behind them maybe one byte without end. It tells nothing.
 #[derive(Drop)]
@@ -51,7 +56,36 @@ fn moments_of(alloc: Global, moments: Vec<u64>) -> Result<Vec<u64>, AllocError>
     Ok(moments)
 }
 
-fn counted<G: Ledger>(alloc: Global, given: Given, blank: Blank) -> Result<Outcome, Memory>
+// The numbers of the calls that fail, where so many pass before them.
+fn failing(alloc: Global, passes: u64, fails: u64) -> Result<Vec<u64>, AllocError> {
+    let mut calls = Vec::new(alloc);
+    for call in passes..passes.saturating_add(fails) {
+        calls.push(call)?;
+    }
+    Ok(calls)
+}
+
+// What the disk holds before the run: what the case before left, where it goes on, and then this.
+fn content_of(
+    alloc: Global,
+    goes_on: bool,
+    left: &[u8],
+    more: &[u8],
+) -> Result<Vec<u8>, AllocError> {
+    let mut content = Vec::new(alloc);
+    if goes_on {
+        content.extend_from_slice(left)?;
+    }
+    content.extend_from_slice(more)?;
+    Ok(content)
+}
+
+fn counted<G: Ledger>(
+    alloc: Global,
+    given: Given,
+    left: &[u8],
+    blank: Blank,
+) -> Result<Outcome, Memory>
     requires name { blank.name ≡ G.name }
     requires parts { blank.parts ≡ G.parts }
     requires some { 0 < blank.parts }
@@ -65,28 +99,40 @@ fn counted<G: Ledger>(alloc: Global, given: Given, blank: Blank) -> Result<Outco
         endless,
         moments,
         room,
+        goes_on,
+        disk: more,
+        disk_passes,
+        disk_fails,
     } = given;
+    let content = content_of(alloc, goes_on, left, &more)?;
+    let failing = failing(alloc, disk_passes, disk_fails)?;
+    let disk = MemoryDisk::new(alloc, &content, DISK_ROOM, DISK_CALLS, failing)?;
     let mut feed = Feed {
         bytes: source(input, input_reads),
         endless,
     };
     let mut out = MemorySink::new(alloc, room)?;
-    let Ran { status, disks: _ } = run(
+    let Ran { status, disks } = run(
         alloc,
         &words,
         &mut source(tables, tables_reads),
         &mut feed,
         &mut out,
-        ClosedDisk::new(),
+        disk,
         &mut ClosedLink::new(),
         &mut FixedClock::new(moments_of(alloc, moments)?),
         &mut Steps::<G>::new(blank),
     );
     let output = out.written().to_vec(alloc)?;
-    Ok(Outcome { status, output })
+    let disk = Some(disks.content().to_vec(alloc)?);
+    Ok(Outcome {
+        status,
+        output,
+        disk,
+    })
 }
 
-/// How the program ends where it is given this.
-pub(crate) fn outcome_of(alloc: Global, given: Given) -> Result<Outcome, Memory> {
-    counted::<Brand>(alloc, given, Blank::new(1))
+/// How the program ends where it is given this, and where the case before left this on the disk.
+pub(crate) fn outcome_of(alloc: Global, given: Given, left: &[u8]) -> Result<Outcome, Memory> {
+    counted::<Brand>(alloc, given, left, Blank::new(1))
 }

@@ -12,8 +12,14 @@ use std::alloc::Global;
 use std::io::Write;
 use std::{fs, io};
 
-// Runs a case and prints what came of it. Whether it went as it is wanted.
-fn run_case<W: Write>(alloc: Global, case: Case, out: &mut W) -> io::Result<bool>
+// Runs a case, where the one before left this on the disk, and prints what came of it. Whether it
+// went as it is wanted.
+fn run_case<W: Write>(
+    alloc: Global,
+    case: Case,
+    left: &mut Vec<u8>,
+    out: &mut W,
+) -> io::Result<bool>
     ensures { IfOk result (λ passed. (lines : List ℕ) × Says passed (string_bytes case.name) lines
         × Appends (W.contents out.old) (W.contents out.new) lines) }
 {
@@ -22,11 +28,13 @@ fn run_case<W: Write>(alloc: Global, case: Case, out: &mut W) -> io::Result<bool
         given,
         wanted,
     } = case;
-    let Ok(got) = outcome_of(alloc, given) else {
+    let Ok(got) = outcome_of(alloc, given, left) else {
         return Err(io::Error::from(io::ErrorKind::OutOfMemory));
     };
     out.write_all(&verdict(alloc, &name, &got, &wanted)?)?;
-    Ok(passes(&got, &wanted))
+    let passed = passes(&got, &wanted);
+    *left = got.disk.unwrap_or(Vec::new(alloc));
+    Ok(passed)
 }
 
 // Runs cases, one after another. Whether all went as they are wanted.
@@ -35,8 +43,9 @@ fn run_cases<W: Write>(alloc: Global, cases: Vec<Case>, out: &mut W) -> io::Resu
         (W.contents out.new)) }
 {
     let mut all = true;
+    let mut left = Vec::new(alloc);
     for case in cases {
-        all &= run_case(alloc, case, out)?;
+        all &= run_case(alloc, case, &mut left, out)?;
     }
     Ok(all)
 }

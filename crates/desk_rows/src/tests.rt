@@ -6,7 +6,7 @@ use crate::verdict::verdict;
 use std::test::Fail;
 
 /// Case files, and the line that is refused.
-const REFUSED: [(&str, usize, Why); 14] = [
+const REFUSED: [(&str, usize, Why); 16] = [
     ("status 0", 1, Why::NoCase),
     ("# a comment\n\nwords", 3, Why::NoCase),
     ("case a\nstatus", 2, Why::BadNumber),
@@ -24,7 +24,9 @@ const REFUSED: [(&str, usize, Why); 14] = [
         Why::NotInTables,
     ),
     ("case a\ntables no_such_file.toml", 2, Why::NoFile),
-    ("case a\n\njournal before", 3, Why::NotServed),
+    ("case a\n\njournal behind", 3, Why::UnknownWord),
+    ("case a\nfails disk 1", 2, Why::BadNumber),
+    ("case a\n@ {}", 2, Why::NotServed),
 ];
 
 #[test]

@@ -8,7 +8,18 @@ use std::alloc::{AllocError, Global};
 pub(crate) fn passes(got: &Outcome, wanted: &Outcome) -> bool
     ensures { IsTrue result ↔ Passes got.now wanted.now }
 {
-    got.status == wanted.status && got.output.as_slice() == wanted.output.as_slice()
+    got.status == wanted.status
+        && got.output.as_slice() == wanted.output.as_slice()
+        && is_left(got.disk.as_deref(), wanted.disk.as_deref())
+}
+
+// Whether the disk holds what is wanted, or nothing is said of it.
+fn is_left(got: Option<&[u8]>, wanted: Option<&[u8]>) -> bool {
+    match (got, wanted) {
+        (_, None) => true,
+        (None, Some(_)) => false,
+        (Some(got), Some(wanted)) => got == wanted,
+    }
 }
 
 // The number of the first line in which two texts differ, from 0.
@@ -31,6 +42,12 @@ fn differences(alloc: Global, got: &Outcome, wanted: &Outcome) -> Result<Vec<u8>
     if got.status != wanted.status {
         let statuses = format!(in alloc; "  status {}, wanted {}\n", got.status, wanted.status)?;
         text.extend_from_slice(statuses.as_bytes())?;
+    }
+    if !is_left(got.disk.as_deref(), wanted.disk.as_deref()) {
+        text.extend_from_slice(b"  the disk: ")?;
+        let disk = got.disk.as_deref().unwrap_or(b"");
+        text.extend_from_slice(hex::encode(alloc, disk)?.as_bytes())?;
+        text.extend_from_slice(b"\n")?;
     }
     if got.output.as_slice() != wanted.output.as_slice() {
         let at = first_difference(&got.output, &wanted.output);

@@ -41,7 +41,10 @@ pub(crate) fn take_journal<D: Disk>(
     ensures changed { IfOk result (λ k. keeper_changed k ≡ 0) }
     ensures fails { IfErr result (λ h. NotTaken (D.seen disk) (D.faults disk) (D.faults h.object)
         h.fault) }
-    ensures left { IfErr result (λ h. LeavesDisk (D.seen disk) (D.seen h.object) h.fault) }
+    ensures own { IfOk result (λ k. IsOwn (D.seen disk)) }
+    ensures left { IfErr result (λ h. LeavesDisk (D.seen disk) (D.seen h.object)
+        (WhereTold (D.seen disk) (λ c. AreJournalsOf (D.images disk) (D.images h.object)))
+        h.fault) }
     ensures later { IfOk result (λ k. D.faults disk ≤ D.faults (keeper_disk k)) }
     ensures later_err { IfErr result (λ h. D.faults disk ≤ D.faults h.object) }
 {

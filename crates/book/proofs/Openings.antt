@@ -109,5 +109,5 @@ pub fails_to_open : {K : Type 0} (full fills : ℕ → ℕ → Type 0) (c : Conf
 fails_to_open full fills c text now rs s fault.KeeperFault old new read gives h = tt
 fails_to_open full fills c text now rs s (fault.BadEntry n) old new read gives h = absurd h
 fails_to_open full fills c text now rs s fault.OtherTables old new read gives h = absurd h
-fails_to_open full fills c text now rs s fault.Full old new read gives h = record { desk = s; read = read; full = gives (length (opening text now s)) (bytes_in (opening text now s)) h }
+fails_to_open full fills c text now rs s fault.Full old new read gives h = record { desk = s; read = read; full = gives (length (opening text now s)) (bytes_in (opening text now s)) h.1 }
 fails_to_open full fills c text now rs s fault.Memory old new read gives h = tt

@@ -49,6 +49,8 @@ impl Keeper for MemoryKeeper {
 
     ghost faults = { λ k. 0 };
 
+    ghost changes = { λ k. 0 };
+
     ghost counted = { λ k. length k.lengths.items };
 
     ghost readable = { λ k. Unit {0} };
@@ -72,6 +74,10 @@ impl Keeper for MemoryKeeper {
     ghost rest_is_readable = { λ k rests. rests };
 
     ghost doubt_is_readable = { λ k tried doubts. doubts };
+
+    ghost changes_are_faults = { λ k. omega arith };
+
+    ghost told_unchanged = { λ k readable r told. refl };
 
     ghost counts = { λ k readable. count_is k.lengths.items k.text.items };
 

@@ -20,7 +20,7 @@ returns-then-entries-ge-MOST_ENTRIES-clause-any_moment g c =
     let keeper = self.keeper in
     let es = opening c.args.text c.args.now.0 self.desk in
     λ x told. weaker K.moment K.held_since keeper keeper (λ image. image ≡ Some x) (AddsSome x es) (none_yet x es)
-    (stood K.moment K.held_since (K.holds keeper) keeper x (g.met.K.Keeper.since_is_now keeper) (g.met.K.Keeper.rest_holds keeper (c.sound.ensures.whole c.requires.whole) x (sym c.sound.ensures.told ∙ told)))
+    (stood K.moment K.held_since (K.holds keeper) keeper x (g.met.K.Keeper.since_is_now keeper) (g.met.K.Keeper.rest_holds keeper (c.sound.ensures.page.whole c.requires.whole) x (sym c.sound.ensures.page.told ∙ told)))
 
 pub returns-in-Err-clause-any_moment : goal.returns-in-Err-clause-any_moment
 returns-in-Err-clause-any_moment g c =
@@ -29,14 +29,14 @@ returns-in-Err-clause-any_moment g c =
     let keeper = self.keeper in
     let es = opening c.args.text c.args.now.0 self.desk in
     λ x told. weaker K.moment K.held_since keeper keeper (λ image. image ≡ Some x) (AddsSome x es) (none_yet x es)
-    (stood K.moment K.held_since (K.holds keeper) keeper x (g.met.K.Keeper.since_is_now keeper) (g.met.K.Keeper.rest_holds keeper (c.sound.ensures.whole c.requires.whole) x (sym c.sound.ensures.told ∙ told)))
+    (stood K.moment K.held_since (K.holds keeper) keeper x (g.met.K.Keeper.since_is_now keeper) (g.met.K.Keeper.rest_holds keeper (c.sound.ensures.page.whole c.requires.whole) x (sym c.sound.ensures.page.told ∙ told)))
 
 pub write-requires-clause-fit : goal.write-requires-clause-fit
 write-requires-clause-fit g c =
     let m = c.args.self.now.desk.now in
     let count : c.entries-entries.result ≡ m.entries = c.entries-entries.ensures ∙ ap (λ (d : Desk). d.now.entries) c.state.ensures in
     let at = c.moment-moment.ensures in
-    let time = c.sound.ensures.time in
+    let time = c.sound.ensures.page.time in
     subst (AllFit m) (sym c.in-Ok.ensures.drafts)
     (opening_fits m (c.entries-entries.result == 0) c.args.text c.moment-moment.result.0 (ap (λ (n : ℕ). n == 0) count) (omega (arith, at)) (omega (arith, at, time)) (omega (arith, count)))
 
@@ -44,5 +44,5 @@ pub returns-in-Done-clause-fit : goal.returns-in-Done-clause-fit
 returns-in-Done-clause-fit g c =
     let m = c.args.self.now.desk.now in
     let count : c.entries-entries.result ≡ m.entries = c.entries-entries.ensures ∙ ap (λ (d : Desk). d.now.entries) c.state.ensures in
-    let time = c.sound.ensures.time in
+    let time = c.sound.ensures.page.time in
     opening_fits m (m.entries == 0) c.args.text (moment_of c.args.now.0 m) refl (omega arith) (omega (arith, time)) (omega (arith, count))

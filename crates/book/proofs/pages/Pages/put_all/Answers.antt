@@ -17,7 +17,7 @@ loop-draft-init g c =
     let K = g.K.Keeper in
     let self = c.args.self.now in
     let all = c.into_iter-draft-iterator.ensures.into_iter_gives in
-    let rest = c.sound.ensures.whole c.requires.whole in
+    let rest = c.sound.ensures.page.whole c.requires.whole in
     record {
       all = all.0;
       count = search rules;
@@ -27,7 +27,7 @@ loop-draft-init g c =
       records = rw all.0 c.requires.records;
       bytes = rw all.0 c.requires.bytes;
       moments = λ x told. weaker K.moment K.held_since self.keeper self.keeper _ _ (none_yet x (map entry_in c.args.drafts.items))
-          (stood K.moment K.held_since (K.holds self.keeper) self.keeper x (g.met.K.Keeper.since_is_now self.keeper) (g.met.K.Keeper.rest_holds self.keeper rest x (sym c.sound.ensures.told ∙ told)));
+          (stood K.moment K.held_since (K.holds self.keeper) self.keeper x (g.met.K.Keeper.since_is_now self.keeper) (g.met.K.Keeper.rest_holds self.keeper rest x (sym c.sound.ensures.page.told ∙ told)));
     }
 
 pub loop-draft-preserved : goal.loop-draft-preserved

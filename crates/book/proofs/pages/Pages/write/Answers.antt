@@ -11,7 +11,7 @@ returns-in-Err-Full-clause-any_moment g c =
     let all = map entry_in c.args.drafts.items in
     λ x told. passed K.moment K.held_since old c.prepare.new.self.keeper (AddsSome x all) c.prepare.ensures.time c.prepare.ensures.since
     (weaker K.moment K.held_since old old (λ image. image ≡ Some x) (AddsSome x all) (none_yet x all)
-    (stood K.moment K.held_since (K.holds old) old x (g.met.K.Keeper.since_is_now old) (g.met.K.Keeper.rest_holds old (c.sound.ensures.whole c.requires.whole) x (sym c.sound.ensures.told ∙ told))))
+    (stood K.moment K.held_since (K.holds old) old x (g.met.K.Keeper.since_is_now old) (g.met.K.Keeper.rest_holds old (c.sound.ensures.page.whole c.requires.whole) x (sym c.sound.ensures.page.told ∙ told))))
 
 pub returns-in-Err-Memory-clause-any_moment : goal.returns-in-Err-Memory-clause-any_moment
 returns-in-Err-Memory-clause-any_moment g c =
@@ -20,4 +20,4 @@ returns-in-Err-Memory-clause-any_moment g c =
     let all = map entry_in c.args.drafts.items in
     λ x told. passed K.moment K.held_since old c.prepare.new.self.keeper (AddsSome x all) c.prepare.ensures.time c.prepare.ensures.since
     (weaker K.moment K.held_since old old (λ image. image ≡ Some x) (AddsSome x all) (none_yet x all)
-    (stood K.moment K.held_since (K.holds old) old x (g.met.K.Keeper.since_is_now old) (g.met.K.Keeper.rest_holds old (c.sound.ensures.whole c.requires.whole) x (sym c.sound.ensures.told ∙ told))))
+    (stood K.moment K.held_since (K.holds old) old x (g.met.K.Keeper.since_is_now old) (g.met.K.Keeper.rest_holds old (c.sound.ensures.page.whole c.requires.whole) x (sym c.sound.ensures.page.told ∙ told))))

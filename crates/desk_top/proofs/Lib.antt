@@ -9,4 +9,7 @@ pub mod Alike
 pub mod WordLemmas
 pub mod MarkLemmas
 pub mod DeskLemmas
+pub mod DiskLemmas
+pub mod CourseLemmas
+pub mod DoneLemmas
 pub mod StatusLemmas

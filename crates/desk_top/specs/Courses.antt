@@ -6,13 +6,12 @@ use Rattle.wire_ids.specs.declared.eui.Eui.{Eui}
 use Rattle.agreements.specs.LookUps.{device_place}
 use Rattle.agreements.specs.Walk.{Config, tables_of}
 use Rattle.disk_model.specs.Disk.{WhereTold}
-use Rattle.disk_journal.specs.Walked.{IsForeign}
 use Rattle.entries.specs.declared.entry.Entry.{Entry}
 use Rattle.keepers.specs.Keeper.{Image}
-use Rattle.keepers.specs.JournalKeepers.{end_of, IsPastLimit}
+use Rattle.keepers.specs.JournalKeepers.{end_of, IsPastLimit, Journals}
 use Rattle.roam_core.specs.Agreement.{AgreeOver}
 use Rattle.desk_top.specs.Counting.{Counted}
-use Rattle.desk_top.specs.Journals.{AreJournalsOf, HoldsJournal, LeavesDisk, NotTaken, StaysClosed, records_in}
+use Rattle.desk_top.specs.Journals.{AreJournalsOf, HoldsJournal, IsOwn, LeavesDisk, NotTaken, StaysClosed, records_in}
 use Rattle.desk_top.specs.LastLines.{no_device_line}
 use Rattle.desk_top.specs.Opening.{Unopened}
 use Rattle.desk_top.specs.Runs.{End, Run, Seen, Work, disk_after, disk_before, outside_at}
@@ -160,16 +159,13 @@ pub record NoJournal {T O D K : Type 0} (images : D → List ℕ → Type 0) (w 
   pub left : LeavesDisk w.base.bytes w.base_after.bytes (WhereTold w.base.bytes (λ (c : List ℕ). AreJournalsOf (images w.base.object) (images w.base_after.object))) fault
   pub rests : Rests w
 
--- a disk holds nothing but a journal, where it tells
-abbrev pub IsOwn : Option (List ℕ) → Type 0
-IsOwn content = WhereTold content (λ (c : List ℕ). (place : ℕ) → IsForeign place c → ⊥)
-
--- The journal isn't opened. The input isn't read, and nothing is written but the first so many entries of the opening.
-pub record NotBegun {T O D K : Type 0} (c : Config) (text : List ℕ) (w : Work T O (Seen D) K) (end : End) : Type 0 where
+-- The journal isn't opened. The input isn't read, and nothing is written but the first so many entries of the opening: each image of the
+-- disk has a journal with none or some of them.
+pub record NotBegun {T O D K : Type 0} (images : D → List ℕ → Type 0) (c : Config) (text : List ℕ) (w : Work T O (Seen D) K) (end : End) : Type 0 where
   pub fault : Fault
   pub end_is : end ≡ Err fault
   pub own : IsOwn w.base.bytes
-  pub why : StaysClosed fills c text (disk_before w) (disk_after w) w.base.faults w.base_after.faults (λ image. image ≡ records_in w.base_after.bytes) fault
+  pub why : StaysClosed fills c text (disk_before w) (disk_after w) w.base.faults w.base_after.faults (Journals (images w.base_after.object)) fault
   pub input : w.input_after ≡ w.input
   pub out : w.out_after ≡ w.out
   -- no more steps are counted than there are records
@@ -187,7 +183,7 @@ pub record IsServed {T O D K : Type 0} (asked : Task) (c : Config) (text : List 
   pub steps : WhereTold (records_in w.base.bytes) (λ rs. w.steps_after ≡ w.steps + length rs)
 
 abbrev pub OnDisk : {T O D K : Type 0} → (D → List ℕ → Type 0) → Task → Config → List ℕ → Work T O (Seen D) K → End → Type 0
-OnDisk images asked c text w end = NoJournal images w end ⊎ NotBegun c text w end ⊎ IsServed asked c text w end
+OnDisk images asked c text w end = NoJournal images w end ⊎ NotBegun images c text w end ⊎ IsServed asked c text w end
 
 -- What running a task on the desk of these tables, over a disk, comes to.
 pub record RunsDesk {T O D K : Type 0} (images : D → List ℕ → Type 0) (asked : Task) (c : Config) (text : List ℕ) (w : Work T O (Seen D) K) (end : End) : Type 0 where

@@ -1,5 +1,5 @@
 -- The journal of a run: what its disk tells of it, and what opening it comes to.
-use Rattle.std.specs.Prelude.{◌≡◌, ◌⊎◌, ℕ, List, [], ◌∷◌, ◌++◌, length, map, Option, Some, None, option_and_then, option_map}
+use Rattle.std.specs.Prelude.{◌≡◌, ◌≢◌, ◌⊎◌, ℕ, List, [], ◌∷◌, ◌++◌, length, map, Option, Some, None, option_and_then, option_map}
 use Rattle.wire_ids.specs.Causes.{Rose}
 use Rattle.agreements.specs.Walk.{Config}
 use Rattle.disk_model.specs.Disk.{WhereTold}
@@ -47,6 +47,10 @@ Grows before now es = now ≡ option_map (λ (rs : List (List ℕ)). rs ++ map e
 abbrev pub HoldsJournal : Image → Option Entry → Option (List ℕ) → Type 0
 HoldsJournal records None content = records_in content ≡ records
 HoldsJournal records (Some e) content = WhereTold records (λ (rs : List (List ℕ)). OneMoreOrNot rs (encode_of e) (records_in content))
+
+-- a disk holds nothing but a journal, where it tells
+abbrev pub IsOwn : Option (List ℕ) → Type 0
+IsOwn content = WhereTold content (λ (c : List ℕ). (place : ℕ) → IsForeign place c → ⊥)
 
 -- ---- a disk that isn't taken as a journal
 
@@ -114,7 +118,7 @@ TellsJournal fault InputRead = ⊥
 TellsJournal fault Write = ⊥
 TellsJournal fault TooMuch = ⊥
 TellsJournal fault (Journal why) = TellsStop fault why
-TellsJournal fault Memory = Unit {0}
+TellsJournal fault Memory = fault ≢ journal.DiskFault
 
 -- ---- a journal that is opened
 
@@ -179,7 +183,7 @@ TellsBook fault InputRead = ⊥
 TellsBook fault Write = ⊥
 TellsBook fault TooMuch = ⊥
 TellsBook fault (Journal why) = TellsBookStop fault why
-TellsBook fault Memory = Unit {0}
+TellsBook fault Memory = fault ≢ book.KeeperFault
 
 -- The clock was read and nothing was written. The journal is the same, and where it failed each image has the one before, with none or the
 -- first so many of the entries of the opening.
@@ -188,5 +192,5 @@ pub record StaysClosed (fills : List (List ℕ) → ℕ → ℕ → Type 0) (c :
   pub clock : Told before.clock now.clock (reading ∷ [])
   pub written : before.written ≡ now.written
   pub cause : NotOpened fills c text reading before.records faults faults_now why
-  pub same : (why ≡ Journal stop.Failed → ⊥) → now.records ≡ before.records
+  pub same : why ≢ Journal stop.Failed → WhereTold before.records (λ (rs : List (List ℕ)). now.records ≡ Some rs)
   pub images : WhereTold before.records (λ (rs : List (List ℕ)). (image : Image) → holds image → MayOpen c text reading rs image)

@@ -1,5 +1,5 @@
 -- What is done on a desk that was opened.
-use Rattle.std.specs.Prelude.{◌≡◌, ◌⊎◌, ◌↔◌, ℕ, ◌<◌, ◌≤◌, ◌+◌, List, [], ◌∷◌, ◌++◌, length, slice_get, Option, Some, None, Bool, true, false, Ok, Err, IsTrue}
+use Rattle.std.specs.Prelude.{◌≡◌, ◌≢◌, ◌⊎◌, ◌↔◌, ℕ, ◌<◌, ◌≤◌, ◌+◌, List, [], ◌∷◌, ◌++◌, length, slice_get, Option, Some, None, Bool, true, false, Ok, Err, IsTrue}
 use Rattle.std.specs.Io.KnownBytes.{Appends, Consumes, IsAtEnd, Keeps}
 use Rattle.wire_ids.specs.Causes.{Rose}
 use Rattle.wire_ids.specs.Lists.{holds_of}
@@ -135,7 +135,7 @@ pub record RunsClosed {T O P K : Type 0} (fills : List (List ℕ) → ℕ → �
   pub why : Fault
   pub end_is : end ≡ Err why
   pub stays : StaysClosed fills c text (keeper_before w) (keeper_after w) w.base.faults w.base_after.faults (holds w.base_after.object) why
-  pub at_rest : (why ≡ Journal stop.Failed → ⊥) → rests w.base_after.object
+  pub at_rest : why ≢ Journal stop.Failed → rests w.base_after.object
   pub input : w.input_after ≡ w.input
   pub out : w.out_after ≡ w.out
   pub steps : w.steps_after ≤ w.steps + w.base.count

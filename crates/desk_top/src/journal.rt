@@ -5,8 +5,8 @@ ghost use Rattle.disk_model.specs.Disk.{WhereTold};
 ghost use Rattle.disk_journal.specs.Format.{journal_of};
 ghost use Rattle.keepers.specs.JournalKeepers.{KeeperRests, keeper_changed, keeper_disk};
 ghost use Rattle.keepers.specs.JournalKeepers.{keeper_disk_after, keeper_records};
-ghost use Rattle.desk_top.specs.Journals.{HoldsJournal, LeavesDisk, NotTaken, TellsJournal};
-ghost use Rattle.desk_top.specs.Journals.{records_in};
+ghost use Rattle.desk_top.specs.Journals.{AreJournalsOf, IsOwn, LeavesDisk, NotTaken};
+ghost use Rattle.desk_top.specs.Journals.{TellsJournal};
 
 use crate::fault::{Fault, Stop};
 use crate::last_line::foreign_text;

@@ -73,6 +73,7 @@ lines-preserved g c =
       input_count = omega (arith, c.lines.invariant.input_count, c.turn.ensures.input_count);
       out_count = omega (arith, c.lines.invariant.out_count, c.turn.ensures.out_count);
       disk_count = omega (arith, c.lines.invariant.disk_count, c.turn.ensures.disk_count);
+      changes = c.turn.ensures.changes ∙ c.lines.invariant.changes;
     }
 
 pub returns-clause-too_much : goal.returns-clause-too_much
@@ -97,6 +98,7 @@ lines-init g c =
       input_count = omega arith;
       out_count = omega arith;
       disk_count = omega arith;
+      changes = refl;
     }
 
 pub returns-in_err-ahead-clause-answered : goal.returns-in_err-ahead-clause-answered

@@ -160,6 +160,7 @@ impl<K: Keeper> Pages<K> {
         ensures not_full { OnOk result (K.is_full self.old.keeper (length drafts.now)
             (bytes_in (map entry_in drafts.now)) → ⊥) }
         ensures changes { K.changes self.new.keeper ≡ K.changes self.old.keeper }
+        ensures kept { K.records self.new.keeper ≡ K.records self.old.keeper }
         ensures holds { (image : Image) → K.holds self.new.keeper image
             ↔ K.holds self.old.keeper image }
         ensures time { K.moment self.new.keeper ≡ K.moment self.old.keeper }

@@ -85,6 +85,7 @@ impl<D: Disk> JournalKeeper<D> {
 }
 
 impl<D: Disk> Keeper for JournalKeeper<D> {
+    ghost use Rattle.std.proofs.Common.{arith};
     ghost use Rattle.keepers.specs.JournalKeepers.{end_of, keeper_changed, keeper_count};
     ghost use Rattle.keepers.specs.JournalKeepers.{keeper_disk, keeper_end, keeper_faults};
     ghost use Rattle.keepers.specs.JournalKeepers.{keeper_records, IsPastLimit, Journals};

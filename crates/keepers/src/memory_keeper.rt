@@ -34,6 +34,7 @@ impl MemoryKeeper {
 }
 
 impl Keeper for MemoryKeeper {
+    ghost use Rattle.std.proofs.Common.{arith, refl};
     ghost use Rattle.keepers.specs.Memory.{HadSince};
     ghost use Rattle.keepers.specs.MemoryKeepers.{memory_records};
     ghost use Rattle.keepers.specs.MemoryLaws.{count_is, had_now, now_had, only_records};

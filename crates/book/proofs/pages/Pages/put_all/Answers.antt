@@ -24,6 +24,7 @@ loop-draft-init g c =
       adds = record { records = no_more self.records; desk = refl; config = refl; tried = c.requires.whole; later = omega arith };
       fit = subst (λ (ds : List Draft). AllFit self.desk.now (map entry_in ds)) (sym all.0) c.requires.fit;
       room = subst (λ (ds : List Draft). HasRoom self.spare (map entry_in ds)) (sym all.0) c.requires.room;
+      changes = refl;
       records = rw all.0 c.requires.records;
       bytes = rw all.0 c.requires.bytes;
       moments = λ x told. weaker K.moment K.held_since self.keeper self.keeper _ _ (none_yet x (map entry_in c.args.drafts.items))
@@ -52,6 +53,7 @@ loop-draft-preserved g c =
       adds = subst (λ (es : List Entry). Adds es None c.args.self.now c.put.new.self) (sym named) (adds_then (map entry_in at.yielded) (draft.entry ∷ []) None c.args.self.now at.self c.put.new.self was.adds added);
       fit = subst (λ (s : Desk). AllFit s.now (map entry_in left)) (sym added.desk) fits.1;
       room = room_for c.put.new.self.spare (map entry_in left) room.1;
+      changes = c.put.ensures.changes ∙ was.changes;
       records = omega (arith, was.records, c.in_ok-put.ensures.records);
       bytes = omega (arith, was.bytes, c.in_ok-put.ensures.bytes);
       moments = λ x told. moments_then K.moment K.held_since c.args.self.now.keeper at.self.keeper c.put.new.self.keeper x (map entry_in c.args.drafts.items) (map entry_in at.yielded) draft.entry (map entry_in left)

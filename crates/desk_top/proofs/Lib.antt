@@ -10,6 +10,7 @@ pub mod WordLemmas
 pub mod MarkLemmas
 pub mod DeskLemmas
 pub mod DiskLemmas
+pub mod HistoryLemmas
 pub mod CourseLemmas
 pub mod DoneLemmas
 pub mod StatusLemmas

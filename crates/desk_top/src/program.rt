@@ -170,10 +170,12 @@ fn work<S: Source, T: Source, O: Sink, D: Disk, K: Clock, G: Ledger>(
     }) result.end }
 {
     match prepare(alloc, words, tables) {
-        Ok((opened, Some(task))) => { on_disk(alloc, task, opened, input, out, disk, clock, steps) }
-        Ok((opened, None)) => Ended {
-            object: disk,
-            end: print_counts(alloc, &opened.tables, out),
+        Ok((opened, asked)) => match asked {
+            Some(task) => on_disk(alloc, task, opened, input, out, disk, clock, steps),
+            None => Ended {
+                object: disk,
+                end: print_counts(alloc, &opened.tables, out),
+            },
         },
         Err(fault) => Ended {
             object: disk,

@@ -1,5 +1,5 @@
 -- What each course says of the end.
-use Rattle.std.proofs.Common.{◌≡◌, ◌≢◌, ◌∙◌, ℕ, List, Option, Some, None, Result, Ok, Err, refl, sym, ap, subst, inl, inr}
+use Rattle.std.proofs.Common.{◌≡◌, ◌≢◌, ◌∙◌, ◌^◌, ℕ, List, Option, Some, None, Result, Ok, Err, refl, sym, ap, subst, inl, inr}
 use Rattle.std.specs.Prelude.{◌↔◌}
 use Rattle.agreements.specs.Walk.{Config}
 use Rattle.agreements.specs.declared.fault.TablesFault.{TablesFault}
@@ -9,11 +9,12 @@ use Rattle.entries.specs.declared.entry.Entry.{Entry}
 use Rattle.keepers.specs.Keeper.{Image}
 use Rattle.roam_core.specs.Desk.{Desk}
 use Rattle.desk_top.specs.Counting.{Counted}
-use Rattle.desk_top.specs.Courses.{Course, IsChecked, IsServed, IsTried, NoCommand, NoJournal, NoRow, NoTables, NotBegun, OnDisk, TellsNoRow}
-use Rattle.desk_top.specs.Journals.{NotOpened, NotTaken, Outside}
+use Rattle.desk_top.specs.Courses.{Course, IsChecked, IsServed, IsTried, NoCommand, NoJournal, NoRow, NoTables, NotBegun, OnDisk, TellsNoRow, fills}
+use Rattle.desk_top.specs.Journals.{NotOpened, NotTaken, Outside, records_in}
 use Rattle.desk_top.specs.Opening.{Unopened}
+use Rattle.desk_top.specs.Output.{key_table}
 use Rattle.desk_top.specs.Promises.{MayRefuse}
-use Rattle.desk_top.specs.Runs.{End, Run, Seen, Work}
+use Rattle.desk_top.specs.Runs.{End, Run, Seen, Work, outside_at}
 use Rattle.desk_top.specs.Tasks.{DeviceMarked, Does, LinesAnswered}
 use Rattle.desk_top.specs.Text.{HasTables}
 use Rattle.desk_top.specs.Words.{Spells, SpellsNone}
@@ -39,8 +40,27 @@ same_fault end e is usage = let both : Err e ≡ Err Usage = sym is ∙ usage in
 
 disk_not : {T O D K : Type 0} (images : D → List ℕ → Type 0) (task : Task) (c : Config) (text : List ℕ) (w : Work T O (Seen D) K) (end : End) → OnDisk images task c text w end → end ≡ Err Usage → ⊥
 disk_not images task c text w end (inl none) is = subst (λ (e : Fault). NotTaken w.base.bytes w.base.faults w.base_after.faults e) (same_fault end none.fault none.end_is is) none.why
-disk_not images task c text w end (inr (inl closed)) is = subst (λ (e : Fault). NotOpened _ c text closed.why.reading _ w.base.faults w.base_after.faults e) (same_fault end closed.fault closed.end_is is) closed.why.cause
-disk_not images task c text w end (inr (inr served)) is = does_not _ _ task c _ served.serves.opened.desk _ _ _ _ served.doubted end served.serves.does is
+disk_not images task c text w end (inr (inl closed)) is = subst (λ (e : Fault). NotOpened fills c text closed.why.reading (records_in w.base.bytes) w.base.faults w.base_after.faults e) (same_fault end closed.fault closed.end_is is) closed.why.cause
+disk_not images task c text w end (inr (inr served)) is =
+    does_not fills (2 ^ 30) task c (key_table c) served.serves.opened.desk w.input.bytes w.input_after.bytes served.serves.opened.outside (outside_at w.clock_after w.out_after served.records) served.doubted end served.serves.does is
+
+-- ---- nor are the tables read again
+
+lines_unread : (fills : List (List ℕ) → ℕ → ℕ → Type 0) (limit : ℕ) (c : Config) (keys : List RootKeys) (s : Desk) (a b : Option (List ℕ)) (o w : Outside) (doubted : Option Entry) (end : End) → LinesAnswered fills limit c keys s a b o w doubted end → end ≡ Err TablesRead → ⊥
+lines_unread fills limit c keys s a b o w doubted end did is = subst (λ (e : End). LinesAnswered fills limit c keys s a b o w doubted e) is did
+
+does_unread : (fills : List (List ℕ) → ℕ → ℕ → Type 0) (limit : ℕ) (task : Task) (c : Config) (keys : List RootKeys) (s : Desk) (a b : Option (List ℕ)) (o w : Outside) (doubted : Option Entry) (end : End) → Does fills limit task c keys s a b o w doubted end → end ≡ Err TablesRead → ⊥
+does_unread fills limit Answer c keys s a b o w doubted end did is = lines_unread fills limit c keys s a b o w doubted end did is
+does_unread fills limit (Mark suspended device eui) c keys s a b o w doubted end did is = subst (λ (e : End). DeviceMarked fills suspended device eui s o w doubted e) is did
+
+same_read : (end : End) (e : Fault) → end ≡ Err e → end ≡ Err TablesRead → e ≡ TablesRead
+same_read end e is read = let both : Err e ≡ Err TablesRead = sym is ∙ read in cc both
+
+pub disk_unread : {T O D K : Type 0} (images : D → List ℕ → Type 0) (task : Task) (c : Config) (text : List ℕ) (w : Work T O (Seen D) K) (end : End) → OnDisk images task c text w end → end ≡ Err TablesRead → ⊥
+disk_unread images task c text w end (inl none) is = subst (λ (e : Fault). NotTaken w.base.bytes w.base.faults w.base_after.faults e) (same_read end none.fault none.end_is is) none.why
+disk_unread images task c text w end (inr (inl closed)) is = subst (λ (e : Fault). NotOpened fills c text closed.why.reading (records_in w.base.bytes) w.base.faults w.base_after.faults e) (same_read end closed.fault closed.end_is is) closed.why.cause
+disk_unread images task c text w end (inr (inr served)) is =
+    does_unread fills (2 ^ 30) task c (key_table c) served.serves.opened.desk w.input.bytes w.input_after.bytes served.serves.opened.outside (outside_at w.clock_after w.out_after served.records) served.doubted end served.serves.does is
 
 pub told_usage : {S T O D K : Type 0} (images : D → List ℕ → Type 0) (run : Run S T O D K) (end : End) → Course images run end → end ≡ Err Usage → SpellsNone run.words
 told_usage images run end (inl none) is = none.words

@@ -68,7 +68,7 @@ module _ {D : Type 0} (tells : D → Option (List ℕ)) (images : D → List ℕ
 
 -- ---- what comes of a task on the keeper comes of it on the disk
 
-abbrev on_keeper : {T O D K : Type 0} → (D → Option (List ℕ)) → (D → ℕ) → JournalKeeper D → JournalKeeper D → Seen T → Seen T → Seen O → Seen O → SeenClock K → SeenClock K → ℕ → ℕ → Work T O (SeenKeeper (JournalKeeper D)) K
+abbrev pub on_keeper : {T O D K : Type 0} → (D → Option (List ℕ)) → (D → ℕ) → JournalKeeper D → JournalKeeper D → Seen T → Seen T → Seen O → Seen O → SeenClock K → SeenClock K → ℕ → ℕ → Work T O (SeenKeeper (JournalKeeper D)) K
 on_keeper tells faults k left i i' o o' t t' n n' = record {
   input = i;
   input_after = i';
@@ -82,7 +82,7 @@ on_keeper tells faults k left i i' o o' t t' n n' = record {
   steps_after = n';
 }
 
-abbrev over_disk : {T O D K : Type 0} → (D → Option (List ℕ)) → (D → ℕ) → D → D → Seen T → Seen T → Seen O → Seen O → SeenClock K → SeenClock K → ℕ → ℕ → Work T O (Seen D) K
+abbrev pub over_disk : {T O D K : Type 0} → (D → Option (List ℕ)) → (D → ℕ) → D → D → Seen T → Seen T → Seen O → Seen O → SeenClock K → SeenClock K → ℕ → ℕ → Work T O (Seen D) K
 over_disk tells faults disk left i i' o o' t t' n n' = record {
   input = i;
   input_after = i';

@@ -17,8 +17,9 @@ use Rattle.desk_top.specs.Counting.{Counted}
 use Rattle.desk_top.specs.Courses.{Asks, Course, IsTried, OnDisk, TellsNoRow, fills}
 use Rattle.desk_top.specs.Journals.{NotOpened, NotTaken, Outside, StopsOpening, StopsTaking, records_in}
 use Rattle.desk_top.specs.Opening.{Unopened}
+use Rattle.desk_top.specs.Output.{key_table}
 use Rattle.desk_top.specs.Promises.{Causes, FitsAll, FitsInput, HasJournal, IsDone, NoneFailed, Promises}
-use Rattle.desk_top.specs.Runs.{End, Run, Seen, Work}
+use Rattle.desk_top.specs.Runs.{End, Run, Seen, Work, outside_at}
 use Rattle.desk_top.specs.Tasks.{DeviceMarked, Does, LinesAnswered, TakesSo, Unwritten}
 use Rattle.desk_top.specs.Text.{HasTables, text_room}
 use Rattle.desk_top.specs.Words.{Spells}
@@ -35,7 +36,7 @@ use Rattle.desk_top.proofs.HistoryLemmas.{journal_read, not_bad, not_other, not_
 
 -- ---- a list of words is one command's
 
-long : Command → ℕ
+abbrev long : Command → ℕ
 long Check = 3
 long Answer = 5
 long (Suspend eui) = 6
@@ -48,7 +49,7 @@ spelled_long words (Suspend eui) spells = spells.0
 spelled_long words (Resume eui) spells = spells.0
 
 -- the input is told, and isn't too much, where it is to be answered
-NeedsInput : Option (List ℕ) → Task → Type 0
+abbrev NeedsInput : Option (List ℕ) → Task → Type 0
 NeedsInput input asked = asked ≡ task.Answer → FitsInput input
 
 asks_long : (c : Config) (command : Command) (asked : Task) → Asks c command asked → 5 ≤ long command
@@ -76,7 +77,7 @@ fits_asked run c d (Resume eui) other asked one two asks fits = (fits, λ is. ab
 unopened_done : (bytes : Option (List ℕ)) (before now : ℕ) (e : Fault) (c : Config) → Unopened bytes before now e → HasTables bytes (Ok c) → ¬ Rose before now → IsDone (Err e)
 unopened_done bytes before now Usage c why has not = why
 unopened_done bytes before now (Refused line) c why has not = refused_not bytes c why.0 has why.1
-unopened_done bytes before now (NoDevice line) c why has not = why
+unopened_done bytes before now (NoDevice line) c why has not = tt
 unopened_done bytes before now TablesRead c why has not = not why
 unopened_done bytes before now InputRead c why has not = why
 unopened_done bytes before now Write c why has not = why
@@ -203,7 +204,7 @@ disk_done : {T O D K : Type 0} (images : D → List ℕ → Type 0) (asked : Tas
     → ¬ Rose w.base.faults w.base_after.faults → (end ≡ Err InputRead → ⊥) → (end ≡ Err Write → ⊥) → (asked ≡ task.Answer → end ≡ Err TooMuch → ⊥) → (end ≡ Err (Journal stop.Failed) → ⊥) → IsDone end
 disk_done images asked c text w end rs s (inl none) told read_so quiet read write much failed = subst IsDone (sym none.end_is) (taken_done w.base.bytes w.base.faults w.base_after.faults rs none.fault none.why told quiet)
 disk_done images asked c text w end rs s (inr (inl closed)) told read_so quiet read write much failed = subst IsDone (sym closed.end_is) (opened_done c text closed.why.reading (records_in w.base.bytes) w.base.faults w.base_after.faults rs s closed.fault closed.why.cause told read_so quiet)
-disk_done images asked c text w end rs s (inr (inr served)) told read_so quiet read write much failed = does_done (2 ^ 30) asked c _ served.serves.opened.desk _ _ _ _ served.doubted end served.serves.does read write much failed
+disk_done images asked c text w end rs s (inr (inr served)) told read_so quiet read write much failed = does_done (2 ^ 30) asked c (key_table c) served.serves.opened.desk w.input.bytes w.input_after.bytes served.serves.opened.outside (outside_at w.clock_after w.out_after served.records) served.doubted end served.serves.does read write much failed
 
 tried_done : {S T O D K : Type 0} (images : D → List ℕ → Type 0) (run : Run S T O D K) (end : End) (tried : IsTried images run end) (command : Command) (config : Config) → Causes run end → TakesSo (2 ^ 30) run.work.input.bytes run.work.input_after.bytes end
     → Spells run.words command → HasTables run.tables.bytes (Ok config) → FitsAll run config command → NoneFailed run → IsDone end

@@ -13,4 +13,5 @@ pub mod DiskLemmas
 pub mod HistoryLemmas
 pub mod CourseLemmas
 pub mod DoneLemmas
+pub mod WorkLemmas
 pub mod StatusLemmas

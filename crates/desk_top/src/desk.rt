@@ -58,7 +58,7 @@ fn with_vault<P: Keeper, E: BlockFn, D: BlockFn, T: Source, O: Sink, K: Clock, G
     requires row { HasRow opened.tables task }
     requires keys { vault ≡ key_table opened.tables }
     // What it came to, by how it ended.
-    ensures runs { RunsTask P.fills P.holds P.rests P.doubts limit task opened.tables opened.text
+    ensures { RunsTask P.fills P.holds P.rests P.doubts limit task opened.tables opened.text
         (record {
           input = seen T.left T.faults input.old;
           input_after = seen T.left T.faults input.new;
@@ -117,7 +117,7 @@ fn with_closures<P: Keeper, E: BlockFn, D: BlockFn, T: Source, O: Sink, K: Clock
     requires may_decrypt { ServesKeys (D.may decrypt) (vec_len keys) }
     requires decrypts { Decrypts (D.gives decrypt) keys.items }
     // What it came to, by how it ended.
-    ensures runs { RunsTask P.fills P.holds P.rests P.doubts limit task opened.tables opened.text
+    ensures { RunsTask P.fills P.holds P.rests P.doubts limit task opened.tables opened.text
         (record {
           input = seen T.left T.faults input.old;
           input_after = seen T.left T.faults input.new;
@@ -166,7 +166,7 @@ pub(crate) fn run_desk<P: Keeper, T: Source, O: Sink, K: Clock, G: Ledger>(
     requires text { tables_of opened.text ≡ Ok opened.tables }
     requires row { HasRow opened.tables task }
     // What it came to, by how it ended.
-    ensures runs { RunsTask P.fills P.holds P.rests P.doubts limit task opened.tables opened.text
+    ensures { RunsTask P.fills P.holds P.rests P.doubts limit task opened.tables opened.text
         (record {
           input = seen T.left T.faults input.old;
           input_after = seen T.left T.faults input.new;

@@ -151,7 +151,7 @@ fn work<S: Source, T: Source, O: Sink, D: Disk, K: Clock, G: Ledger>(
     clock: &mut K,
     steps: &mut Steps<G>,
 ) -> Ended<D>
-    ensures promises { Promises D.images (record {
+    ensures { Promises D.images (record {
       words = words.now;
       tables = seen S.left S.faults tables.old;
       tables_after = seen S.left S.faults tables.new;

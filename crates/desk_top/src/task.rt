@@ -165,7 +165,9 @@ pub(crate) fn serve<P: Keeper, E: BlockFn, D: BlockFn, T: Source, O: Sink, K: Cl
     ensures out_count { O.faults out.old ≤ O.faults out.new }
     ensures disk_count { book.old.page.faults ≤ book.new.page.faults }
     ensures changes { P.changes book.new.page.keeper ≡ P.changes book.old.page.keeper }
+    ensures faults { P.faults book.old.page.keeper ≡ book.old.page.faults }
 {
+    book.sound();
     match task {
         Task::Answer => answer_lines(alloc, limit, book, input, out, clock),
         Task::Mark {

@@ -11,8 +11,8 @@ use Rattle.desk_top.proofs.DeskLemmas.{left_so, no_read, no_write, opens_to, tel
 use Rattle.desk_top.proofs.OpeningLemmas.{not_opened}
 use Rattle.desk_top.proofs.desk.with_vault.Goals as goal
 
-pub returns-in-Err-clause-runs : goal.returns-in-Err-clause-runs
-returns-in-Err-clause-runs g c =
+pub returns-in-Err : goal.returns-in-Err
+returns-in-Err g c =
     let P = g.P.Keeper in
     let opened = c.args.opened in
     let object = c.in-Err.field-0.object in
@@ -49,5 +49,42 @@ returns-in-Err-clause-runs g c =
       changes = c.in-Err.ensures.changes;
     }
 
-pub returns-clause-runs : goal.returns-clause-runs
-returns-clause-runs g c = ?
+pub returns : goal.returns
+returns g c =
+    let P = g.P.Keeper in
+    let left = g.T.Source.left in
+    let opened = c.args.opened in
+    let first = c.in-Ok.book.page in
+    let page = c.serve-end.new.book.page in
+    let keeper = c.into_keeper.result in
+    let written = g.O.Sink.written c.args.out.now in
+    let mid : Outside = record { clock = g.K.Clock.tells c.now.new.self; written = written; records = first.records } in
+    let told : page.records ≡ P.records keeper = c.sound.ensures.page.told ∙ ap P.records (sym c.into_keeper.ensures.keeper) in
+    let does = rw (c.in-Ok.ensures.config, c.in-Ok.ensures.keys ∙ c.requires.keys) at c.serve-end.ensures.does in
+    let desk : DeskOpened P.fills opened.tables opened.text (record { clock = g.K.Clock.tells c.args.clock.now; written = written; records = P.records c.args.keeper }) = record {
+      desk = first.desk;
+      outside = mid;
+      reading = c.now.result;
+      clock = c.now.ensures;
+      written = refl;
+      opens = λ rs is. opens_to P.fills opened.tables opened.text c.now.result rs first (c.in-Ok.ensures.opens rs is);
+    } in
+    record {
+      came = inr (inr (record {
+        doubted = page.tried;
+        serves = record {
+          opened = desk;
+          does = subst (λ (rs : Image). Does P.fills c.args.limit c.args.task opened.tables (key_table opened.tables) first.desk (left c.args.input.now) (left c.serve-end.new.input) mid (record { clock = g.K.Clock.tells c.serve-end.new.clock; written = g.O.Sink.written c.serve-end.new.out; records = rs }) page.tried c.serve-end.result) told does;
+        };
+        left = rw c.into_keeper.ensures.keeper (left_so (P.rests page.keeper) (P.doubts page.keeper) page.desk page.spare page.tried c.sound.ensures.page.whole c.sound.ensures.page.broken);
+        steps = c.in-Ok.ensures.steps;
+      }));
+      read = c.serve-end.ensures.read;
+      write = c.serve-end.ensures.write;
+      failed = λ is. omega (arith, c.serve-end.ensures.disk is, c.in-Ok.ensures.later, c.serve-end.ensures.faults, c.into_keeper.ensures.faults);
+      takes = c.serve-end.ensures.too_much;
+      input_later = c.serve-end.ensures.input_count;
+      out_later = c.serve-end.ensures.out_count;
+      later = omega (arith, c.serve-end.ensures.disk_count, c.in-Ok.ensures.later, c.serve-end.ensures.faults, c.into_keeper.ensures.faults);
+      changes = ap P.changes c.into_keeper.ensures.keeper ∙ c.serve-end.ensures.changes ∙ c.in-Ok.ensures.changes;
+    }

@@ -70,7 +70,7 @@ fits_at m (r ∷ rs) (suc n) es front spelled fit within before =
     (later.0, later.1, subst (λ (l : List Entry). IsTrue (fits (replay m l) later.0)) joined later.2)
 
 false_not : (b : Bool) → IsTrue b → b ≡ false → ⊥
-false_not b yes no = cc (yes, no)
+false_not b so not_so = cc (so, not_so)
 
 pub not_bad : (c : Config) (rs : List (List ℕ)) (n : ℕ) (s : Desk) → IsHistory c rs s → IsBad c rs n → ⊥
 not_bad c rs n s history bad =

@@ -143,8 +143,8 @@ pub untouched_more : (words : List (String Global)) (left : Option (List ℕ)) (
 untouched_more words left before now one other e more (inl none) = inl (record { none = none.none; fault_is = none.fault_is; tables = more none.tables })
 untouched_more words left before now one other e more (inr some) = inr some
 
-same_end : (e other : Fault) → Err {T = Unit {0}} e ≡ Err other → e ≡ other
-same_end e other is = cc is
+same_end : (e other : Fault) (end : End) → end ≡ Err e → end ≡ Err other → e ≡ other
+same_end e other end one two = let both : Err e ≡ Err other = sym one ∙ two in cc both
 
 pub unready_on : {S T O D K : Type 0} (images : D → List ℕ → Type 0) (words : List (String Global)) (t t' : Seen S) (i : Seen T) (o : Seen O) (d : Seen D) (k : SeenClock K) (n : ℕ) (e : Fault)
     → IsUnready words t.bytes t.faults t'.faults (t' ≡ t) e → TakesText t.bytes t'.bytes
@@ -160,9 +160,9 @@ unready_on images words t t' i o d k n e why taken =
       ]
     ])
     (record {
-      tables = λ is. read_rose words t.bytes t.faults t'.faults (t' ≡ t) e why (same_end e TablesRead is);
-      input = λ is. absurd (subst IsOfReady (same_end e InputRead is) kind);
-      out = λ is. absurd (subst IsOfReady (same_end e Write is) kind);
-      disk = λ is. absurd (subst IsOfReady (same_end e (Journal stop.Failed) is) kind);
+      tables = λ is. read_rose words t.bytes t.faults t'.faults (t' ≡ t) e why (same_end e TablesRead (Err e) refl is);
+      input = λ is. absurd (subst IsOfReady (same_end e InputRead (Err e) refl is) kind);
+      out = λ is. absurd (subst IsOfReady (same_end e Write (Err e) refl is) kind);
+      disk = λ is. absurd (subst IsOfReady (same_end e (Journal stop.Failed) (Err e) refl is) kind);
     })
-    taken (none_taken i.bytes (Err e) (λ is. subst IsOfReady (same_end e TooMuch is) kind))
+    taken (none_taken i.bytes (Err e) (λ is. subst IsOfReady (same_end e TooMuch (Err e) refl is) kind))

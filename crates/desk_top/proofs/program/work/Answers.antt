@@ -1,4 +1,4 @@
-use Rattle.std.proofs.Common.{ap}
+use Rattle.std.proofs.Common.{◌≡◌, ap}
 use Rattle.desk_top.proofs.WorkLemmas.{checked_on, tried_on, unready_on, untouched_more}
 use Rattle.desk_top.specs.Runs.{seen}
 use Rattle.desk_top.proofs.program.work.Goals as goal
@@ -18,5 +18,5 @@ returns-in-None g c =
 pub returns-in-Err : goal.returns-in-Err
 returns-in-Err g c =
     let S = g.S.Source in
-    let same = λ is. ap (seen S.left S.faults) is in
+    let same : c.prepare.new.tables ≡ c.args.tables.now → seen S.left S.faults c.prepare.new.tables ≡ seen S.left S.faults c.args.tables.now = λ is. ap (seen S.left S.faults) is in
     unready_on g.D.Disk.images c.args.words.now _ _ _ _ _ _ _ c.in-Err.fault (untouched_more _ _ _ _ _ _ c.in-Err.fault same c.in-Err.ensures.unready) c.prepare.ensures.taken

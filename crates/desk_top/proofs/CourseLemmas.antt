@@ -1,15 +1,12 @@
 -- What each course says of the end.
-use Rattle.std.proofs.Common.{◌≡◌, ◌≢◌, ◌∙◌, ◌^◌, ℕ, List, Option, Some, None, Result, Ok, Err, refl, sym, ap, subst, inl, inr}
-use Rattle.std.specs.Prelude.{◌↔◌}
+use Rattle.std.proofs.Common.{◌≡◌, ◌∙◌, ◌^◌, ℕ, List, Option, Err, sym, subst, inl, inr}
 use Rattle.agreements.specs.Walk.{Config}
 use Rattle.agreements.specs.declared.fault.TablesFault.{TablesFault}
-use Rattle.wire_ids.specs.declared.eui.Eui.{Eui}
 use Rattle.wire_ids.specs.declared.keys.RootKeys.{RootKeys}
 use Rattle.entries.specs.declared.entry.Entry.{Entry}
-use Rattle.keepers.specs.Keeper.{Image}
 use Rattle.roam_core.specs.Desk.{Desk}
 use Rattle.desk_top.specs.Counting.{Counted}
-use Rattle.desk_top.specs.Courses.{Course, IsChecked, IsServed, IsTried, NoCommand, NoJournal, NoRow, NoTables, NotBegun, OnDisk, TellsNoRow, fills}
+use Rattle.desk_top.specs.Courses.{Course, OnDisk, TellsNoRow, fills}
 use Rattle.desk_top.specs.Journals.{NotOpened, NotTaken, Outside, records_in}
 use Rattle.desk_top.specs.Opening.{Unopened}
 use Rattle.desk_top.specs.Output.{key_table}

@@ -1,12 +1,10 @@
 -- What comes of opening a book.
-use Rattle.std.proofs.Common.{◌≡◌, ◌≢◌, ◌↔◌, ◌<◌, ◌≤◌, ◌+◌, ◌∙◌, ℕ, List, [], length, Option, Some, None, Result, Err, refl, sym, ap, subst, arith}
+use Rattle.std.proofs.Common.{◌≡◌, ◌≢◌, ◌↔◌, ◌<◌, ◌≤◌, ◌+◌, ℕ, List, [], length, Option, Some, None, Result, Err, refl, ap, subst, arith}
 use Rattle.std.specs.Io.KnownBytes.{Consumes}
 use Rattle.wire_ids.specs.Causes.{Rose}
 use Rattle.line_reader.proofs.Hearings.{Consumes_none}
 use Rattle.agreements.specs.Walk.{Config}
-use Rattle.entries.specs.Entries.{encode_of}
 use Rattle.entries.specs.declared.entry.Entry.{Entry}
-use Rattle.keepers.specs.Keeper.{Image}
 use Rattle.roam_core.specs.Desk.{Desk}
 use Rattle.book.specs.Opening.{Opens, UnlessFailed}
 use Rattle.book.specs.Pages.{IsTried, Page}

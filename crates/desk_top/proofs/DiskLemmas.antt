@@ -1,5 +1,5 @@
 -- From the keeper of a disk's journal to the disk.
-use Rattle.std.proofs.Common.{◌≡◌, ◌≢◌, ◌∙◌, ◌<◌, ◌≤◌, ◌+◌, ◌^◌, ℕ, List, length, Option, Some, None, Result, Err, refl, sym, ap, subst, arith, inl, inr}
+use Rattle.std.proofs.Common.{◌≡◌, ◌∙◌, ◌≤◌, ◌+◌, ◌^◌, ℕ, List, length, Option, Some, None, refl, sym, ap, subst, arith, inl, inr}
 use Rattle.std.specs.Option.{option_map}
 use Rattle.wire_ids.specs.Causes.{Rose}
 use Rattle.agreements.specs.Walk.{Config}
@@ -12,10 +12,10 @@ use Rattle.keepers.specs.Keeper.{Image, OneMoreOrNot}
 use Rattle.keepers.specs.JournalKeepers.{keeper_changed, keeper_count, keeper_disk, keeper_end, keeper_faults, keeper_records, Journals, KeeperDoubts, KeeperRests}
 use Rattle.keepers.specs.JournalLaws.{count_is, disk_rose_only, doubt_journals, rest_journal, rest_reads}
 use Rattle.keepers.specs.declared.journal_keeper.JournalKeeper.{JournalKeeper}
-use Rattle.desk_top.specs.Courses.{IsServed, NoJournal, NotBegun, OnDisk, RunsDesk, fills}
-use Rattle.desk_top.specs.Journals.{DeskOpened, HoldsJournal, IsOwn, NotOpened, Outside, StaysClosed, StopsOpening, records_in}
+use Rattle.desk_top.specs.Courses.{IsServed, NoJournal, NotBegun, RunsDesk, fills}
+use Rattle.desk_top.specs.Journals.{HoldsJournal, IsOwn, NotOpened, StopsOpening, records_in}
 use Rattle.desk_top.specs.Runs.{End, Seen, SeenClock, SeenKeeper, Work, seen, seen_keeper}
-use Rattle.desk_top.specs.Tasks.{HasNoKeys, Leaves, RunsClosed, RunsOpen, RunsTask, Serves}
+use Rattle.desk_top.specs.Tasks.{HasNoKeys, Leaves, RunsClosed, RunsOpen, RunsTask}
 use Rattle.desk_top.specs.declared.fault.Fault.{Fault}
 use Rattle.desk_top.specs.declared.fault.Fault.TheVariants.{Usage, Refused, NoDevice, TablesRead, InputRead, Write, TooMuch, Journal, Memory}
 use Rattle.desk_top.specs.declared.fault.Stop.{Stop}

@@ -1,5 +1,5 @@
 -- Where nothing failed all was done.
-use Rattle.std.proofs.Common.{◌≡◌, ◌≢◌, ◌∙◌, ℕ, ◌+◌, ◌^◌, ◌<◌, ◌≤◌, List, ◌++◌, length, Option, Some, None, Result, Ok, Err, Bool, refl, sym, ap, subst, arith, inl, inr}
+use Rattle.std.proofs.Common.{◌≡◌, ◌≢◌, ℕ, ◌^◌, ◌≤◌, List, length, Option, Some, None, Ok, Err, Bool, refl, sym, ap, subst, arith, inl, inr}
 use Rattle.std.specs.Prelude.{String}
 use Rattle.std.specs.declared.alloc.Global.{Global}
 use Rattle.std.proofs.lemmas.List.{length-append}
@@ -8,7 +8,6 @@ use Rattle.wire_ids.specs.Causes.{Rose}
 use Rattle.wire_ids.specs.declared.eui.Eui.{Eui}
 use Rattle.wire_ids.specs.declared.keys.RootKeys.{RootKeys}
 use Rattle.agreements.specs.Walk.{Config}
-use Rattle.agreements.specs.declared.fault.TablesFault.{TablesFault}
 use Rattle.entries.specs.declared.entry.Entry.{Entry}
 use Rattle.keepers.specs.Keeper.{Image}
 use Rattle.roam_core.specs.Desk.{Desk}

@@ -1,5 +1,5 @@
 -- What a run comes to, by what its words and its tables ask.
-use Rattle.std.proofs.Common.{◌≡◌, ◌∙◌, ◌↔◌, ◌+◌, ◌^◌, ◌<◌, ◌≤◌, ℕ, List, [], length, Option, Some, None, Result, Ok, Err, refl, sym, ap, subst, arith, inl, inr}
+use Rattle.std.proofs.Common.{◌≡◌, ◌∙◌, ◌^◌, ◌≤◌, ℕ, List, [], length, Option, Ok, Err, refl, sym, ap, subst, arith, inl, inr}
 use Rattle.std.specs.Prelude.{String}
 use Rattle.std.specs.declared.alloc.Global.{Global}
 use Rattle.std.specs.Io.KnownBytes.{Consumes}
@@ -9,7 +9,7 @@ use Rattle.line_reader.proofs.Hearings.{Consumes_none}
 use Rattle.agreements.specs.Walk.{Config, tables_of}
 use Rattle.roam_core.specs.Agreement.{AgreeOver}
 use Rattle.desk_top.specs.Counting.{Counted}
-use Rattle.desk_top.specs.Courses.{Asks, Course, IsUnready, NoDeviceRow, NoText, NoWords, RunsDesk, TellsNoRow}
+use Rattle.desk_top.specs.Courses.{Asks, IsUnready, RunsDesk, TellsNoRow}
 use Rattle.desk_top.specs.Opening.{Unopened}
 use Rattle.desk_top.specs.Promises.{Promises}
 use Rattle.desk_top.specs.Runs.{End, Seen, SeenClock, Work}
@@ -18,7 +18,6 @@ use Rattle.desk_top.specs.Text.{ReadsText, text_room}
 use Rattle.desk_top.specs.Words.{Spells}
 use Rattle.desk_top.specs.declared.fault.Fault.{Fault}
 use Rattle.desk_top.specs.declared.fault.Fault.TheVariants.{Usage, Refused, NoDevice, TablesRead, InputRead, Write, TooMuch, Journal, Memory}
-use Rattle.desk_top.specs.declared.fault.Stop.{Stop}
 use Rattle.desk_top.specs.declared.fault.Stop.TheVariants as stop
 use Rattle.desk_top.specs.declared.task.Task.{Task}
 use Rattle.desk_top.specs.declared.words.Command.{Command}

@@ -1,5 +1,5 @@
 -- How a run may end: its status, and the line that it prints last.
-use Rattle.std.specs.Prelude.{◌≡◌, ◌≤◌, ℕ, List, codes, Option, Some, None, Result, Ok, Err}
+use Rattle.std.specs.Prelude.{◌≡◌, ◌≤◌, ℕ, List, codes, Option, Some, None, Ok, Err}
 use Rattle.std.specs.Io.KnownBytes.{Keeps}
 use Rattle.desk_top.specs.LastLines.{Prints}
 use Rattle.desk_top.specs.Promises.{Promises}

@@ -12,7 +12,6 @@ use Rattle.desk_top.specs.Runs.{End, Run}
 use Rattle.desk_top.specs.Tasks.{TakesSo}
 use Rattle.desk_top.specs.Text.{HasTables, text_room}
 use Rattle.desk_top.specs.Words.{Spells, SpellsNone}
-use Rattle.desk_top.specs.declared.fault.Fault.{Fault}
 use Rattle.desk_top.specs.declared.fault.Fault.TheVariants.{Usage, Refused, NoDevice, TablesRead, InputRead, Write, TooMuch, Journal, Memory}
 use Rattle.desk_top.specs.declared.fault.Stop.TheVariants as stop
 use Rattle.desk_top.specs.declared.words.Command.{Command}

@@ -1,5 +1,5 @@
 -- A run: its words and its objects, before it and after it.
-use Rattle.std.specs.Prelude.{◌≡◌, ℕ, List, Option, Result, String}
+use Rattle.std.specs.Prelude.{ℕ, List, Option, Result, String}
 use Rattle.std.specs.declared.alloc.Global.{Global}
 use Rattle.keepers.specs.Keeper.{Image}
 use Rattle.desk_top.specs.Journals.{Outside, records_in}

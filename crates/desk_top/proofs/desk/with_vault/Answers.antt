@@ -1,12 +1,10 @@
-use Rattle.std.proofs.Common.{◌≡◌, ◌≢◌, ◌∙◌, List, ℕ, Err, ap, arith, refl, subst, sym, inl, inr}
+use Rattle.std.proofs.Common.{◌≡◌, ◌∙◌, Err, ap, arith, refl, subst, sym, inl, inr}
 use Rattle.disk_model.specs.Disk.{LeavesOnly}
 use Rattle.keepers.specs.Keeper.{Image}
 use Rattle.book.specs.Opening.{MayOpen}
 use Rattle.desk_top.specs.Journals.{DeskOpened, Outside}
 use Rattle.desk_top.specs.Output.{key_table}
 use Rattle.desk_top.specs.Tasks.{Does}
-use Rattle.desk_top.specs.declared.fault.Fault.TheVariants.{Journal}
-use Rattle.desk_top.specs.declared.fault.Stop.TheVariants as stop
 use Rattle.desk_top.proofs.DeskLemmas.{left_so, no_read, no_write, opens_to, tells_failed, tells_kept, tells_kind, took_none, unless}
 use Rattle.desk_top.proofs.OpeningLemmas.{not_opened}
 use Rattle.desk_top.proofs.desk.with_vault.Goals as goal

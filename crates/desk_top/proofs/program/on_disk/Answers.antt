@@ -1,4 +1,4 @@
-use Rattle.std.proofs.Common.{◌≡◌, ◌^◌, Err, refl, inl}
+use Rattle.std.proofs.Common.{◌^◌, Err, refl, inl}
 use Rattle.desk_top.proofs.DeskLemmas.{no_read, no_write, taken_failed, taken_kind, took_none}
 use Rattle.desk_top.proofs.DiskLemmas.{IsTaken, desk_run}
 use Rattle.desk_top.proofs.program.on_disk.Goals as goal

@@ -81,11 +81,21 @@ guest_ended at addr v = not (visits at v) && visitor_has addr v
 abbrev pub ask_ended : ℕ → DevAddr → OpenAsk → Bool
 ask_ended at addr a = not (is_open at a) && asks_for addr a
 
+abbrev pub has_ended : ℕ → DevAddr → Machine → Bool
+has_ended at addr m = list_any (guest_ended at addr) m.visitors || list_any (ask_ended at addr) m.asks
+
 -- ---- whose addresses an event may change
 
 abbrev pub owner_by : Holder → Owner
 owner_by (holder.Device device) = owner.Device device
 owner_by (holder.Visitor dev) = owner.Visitor dev
+
+-- who has contexts, of an owner
+abbrev pub holder_by : Option Owner → Option Holder
+holder_by None = None
+holder_by (Some (owner.Device device)) = Some (holder.Device device)
+holder_by (Some (owner.Visitor dev)) = Some (holder.Visitor dev)
+holder_by (Some (owner.Ask number)) = None
 
 abbrev pub touched_by_change : Change → Machine → Option Owner
 touched_by_change (change.Join j) m = Some (owner.Device j.device)

@@ -143,11 +143,16 @@ impl State {
         self.current.slots(who, at.0)
     }
 
-    /// The context with this address.
+    /// The context with this address, found in one step.
     pub fn live_context(&self, addr: DevAddr, at: Moment) -> Option<LiveContext>
         ensures { result ≡ live_context addr (lapse at.0 self.now.now) }
     {
-        self.current.live_context(addr, at.0)
+        if at.0 < self.due && self.addresses.knows(addr) {
+            let owner = self.addresses.owner(addr);
+            self.current.context_of(owner, addr, at.0)
+        } else {
+            self.current.live_context(addr, at.0)
+        }
     }
 
     /// Whose pending context an event of this moment makes active before it is looked at.
@@ -163,7 +168,12 @@ impl State {
         ensures { option_map (λ (a : dev_addr.DevAddr). a.0) result
             ≡ free_address net (wake who (lapse at.0 self.now.now)) }
     {
-        self.current.free_address(net, who, at.0)
+        let table = if at.0 < self.due {
+            Some(&self.addresses)
+        } else {
+            None
+        };
+        self.current.free_address(table, net, who, at.0)
     }
 
     /// Whether the device may visit under the address of this ask.

@@ -247,7 +247,7 @@ module _ {X : Type 0} where
 
 -- ---- owners that a step doesn't touch
 
-has_as : (m k : Machine) (o : Owner) (a : DevAddr) → k.devices ≡ m.devices → k.visitors ≡ m.visitors → k.asks ≡ m.asks → has o a k ≡ has o a m
+pub has_as : (m k : Machine) (o : Owner) (a : DevAddr) → k.devices ≡ m.devices → k.visitors ≡ m.visitors → k.asks ≡ m.asks → has o a k ≡ has o a m
 unfolding has
 has_as m k (owner.Device i) a ds vs xs = ap (λ (l : List Device). holds_of (device_has a) (slice_get l i)) ds
 has_as m k (owner.Visitor dev) a ds vs xs = ap (list_any (is_guest_with dev a)) vs

@@ -1,5 +1,5 @@
 -- The table of addresses is the one that the state tells, after each change.
-use Rattle.std.proofs.Common.{inl, inr, ◌≡◌, ℕ, zero, suc, ◌+◌, ◌≤◌, Bool, true, false, cond, eqb, eq-eqb, List, [], ◌∷◌, map, Option, Some, None, option_map, refl, sym, ap, subst, ◌∙◌, arith}
+use Rattle.std.proofs.Common.{inl, inr, ◌<◌, length, get_or, take, ◌≡◌, ℕ, zero, suc, ◌+◌, ◌≤◌, Bool, true, false, cond, eqb, eq-eqb, List, [], ◌∷◌, map, Option, Some, None, option_map, refl, sym, ap, subst, ◌∙◌, arith}
 use Rattle.std.specs.Prelude.{◌&&◌, ◌||◌, find, is_some, not, position, slice_get, sum_by}
 use Rattle.std.specs.List.{filter, list_any}
 use Rattle.std.proofs.lemmas.Bool.{cases_Bool, eqb-true, false≢true}
@@ -13,10 +13,13 @@ use Rattle.address_table.specs.Table.{Table, knows, owner_of}
 use Rattle.address_table.specs.declared.owner.Owner.{Owner}
 use Rattle.address_table.specs.declared.owner.Owner.TheVariants as owner
 use Rattle.contexts.specs.declared.slots.Slots.{Slots}
-use Rattle.entry_codec.specs.Addresses.{IsTable, IsTableBut, PutIn, TakenOut, ask_ended, guest_ended, has, has_ended, holder_by, is_an_ask, is_ask_with, is_guest_with, is_the_owner, one_has, touches}
+use Rattle.entry_codec.specs.Addresses.{IsTable, IsTableBut, PutIn, TakenOut, ask_ended, guest_ended, has, has_ended, holder_by, is_an_ask, is_ask_with, is_guest_with, is_the_owner, one_has, touched_by, touches}
 use Rattle.entry_codec.specs.LookUps.{asks_for, device_has, holder_from, holder_with, is_taken, lives, slot_has, slots_have, visitor_has, visitor_with}
-use Rattle.entry_codec.specs.Machine.{Machine, has_number, is_open, is_visitor, lapse, visits}
+use Rattle.entry_codec.specs.Machine.{Machine, entered, has_number, is_open, is_visitor, lapse, on_event, visits, wake, wakes}
 use Rattle.entry_codec.specs.Devices.{lapsed}
+use Rattle.entry_codec.specs.Ordered.{IsRisingFrom}
+use Rattle.entries.specs.declared.entry.Event.{Event}
+use Rattle.entries.specs.declared.entry.Event.TheVariants as event
 use Rattle.entry_codec.specs.Sound.{IsSound, ask_uses, device_uses, uses, visitor_uses}
 use Rattle.entry_codec.specs.declared.addresses.Touched.{Touched}
 use Rattle.entry_codec.specs.declared.device.Device.{Device}
@@ -25,12 +28,20 @@ use Rattle.entry_codec.specs.declared.parties.Holder.TheVariants as holder
 use Rattle.entry_codec.specs.declared.parties.OpenAsk.{OpenAsk}
 use Rattle.entry_codec.specs.declared.parties.Visitor.{Visitor}
 use Rattle.entry_codec.proofs.Ordered.{place_within, some_is}
-use Rattle.entry_codec.proofs.Owners.{HasOne, any_one, ask_counted, both, find_passes, has_used, is_the_one, neither, not_both, one_owner, or_other, slots_counted, the_owner_is}
+use Rattle.entry_codec.proofs.Owners.{HasOne, any_one, ask_counted, both, find_passes, has_as, has_used, is_the_one, neither, not_both, one_owner, or_other, slots_counted, the_owner_is, untouched}
 use Rattle.entry_codec.proofs.Places.{find-place}
 use Rattle.entry_codec.proofs.Ready.{device_lapsed, has-lapsed}
 use Rattle.entry_codec.proofs.SoundDevices.{use-lapsed}
 use Rattle.entry_codec.proofs.Sums.{holds_same}
 use Rattle.entry_codec.proofs.Window.{any_filter}
+
+or_nothing : (b : Bool) → (b || false) ≡ b
+or_nothing true = refl
+or_nothing false = refl
+
+is_false : (b : Bool) → (b ≡ true → ⊥) → b ≡ false
+is_false true no = absurd (no refl)
+is_false false no = refl
 
 none_is_some : {A : Type 0} (x : A) → None ≡ Some x → ⊥
 none_is_some x e = absurd cc
@@ -78,16 +89,58 @@ put_as who p q a b same h = record { known = h.known; owners = λ x t. h.owners 
 pub none_taken : (a : Table) → TakenOut (λ (x : DevAddr). false) a a
 none_taken a = record { known = λ x. refl; owners = λ x. refl }
 
+pub taken_more : {X : Type 0} (p : DevAddr → X → Bool) (xs : List X) (i : ℕ) (d : X) (a b c : Table) → i < length xs → TakenOut (λ (x : DevAddr). list_any (p x) (take i xs)) a b → TakenOut (λ (x : DevAddr). p x (get_or xs i d)) b c → TakenOut (λ (x : DevAddr). list_any (p x) (take (i + 1) xs)) a c
+taken_more p xs i d a b c lt h k =
+    taken_as (λ (x : DevAddr). list_any (p x) (take i xs) || p x (get_or xs i d)) (λ (x : DevAddr). list_any (p x) (take (i + 1) xs)) a c (λ x. any_next (p x) xs i d lt)
+    (taken_then (λ (x : DevAddr). list_any (p x) (take i xs)) (λ (x : DevAddr). p x (get_or xs i d)) a b c h k)
+  where
+    or_swap : (x y z : Bool) → ((x || y) || z) ≡ (x || (y || z))
+    or_swap true y z = refl
+    or_swap false y z = refl
+
+    any_next : {X : Type 0} (q : X → Bool) (xs : List X) (i : ℕ) (d : X) → i < length xs → (list_any q (take i xs) || q (get_or xs i d)) ≡ list_any q (take (i + 1) xs)
+    any_next q [] i d lt = absurd (omega (arith, lt))
+    any_next q (x ∷ xs) zero d lt = sym (or_nothing (q x))
+    any_next q (x ∷ xs) (suc i) d lt = or_swap (q x) (list_any q (take i xs)) (q (get_or xs i d)) ∙ ap (λ (b : Bool). q x || b) (any_next q xs i d (omega (arith, lt)))
+
+-- ---- one by its number
+
+module _ {X : Type 0} (number : X → ℕ) (p : X → Bool) (n : ℕ) where
+  none_named : (low : ℕ) (xs : List X) → IsRisingFrom low (map number xs) → n < low → list_any (λ (x : X). eqb (number x) n && p x) xs ≡ false
+  none_named low [] h lt = refl
+  none_named low (x ∷ xs) h lt =
+      let other : eqb (number x) n ≡ false = is_false (eqb (number x) n) (λ t. absurd (omega (arith, lt, h.0, eqb-true (number x) n t))) in
+      ap (λ (b : Bool). (b && p x) || list_any (λ (y : X). eqb (number y) n && p y) xs) other ∙ none_named (number x + 1) xs h.1 (omega (arith, lt, h.0))
+
+  pub named_once : (low : ℕ) (xs : List X) → IsRisingFrom low (map number xs) → list_any (λ (x : X). eqb (number x) n && p x) xs ≡ holds_of p (find (λ (x : X). eqb (number x) n) xs)
+  named_once low [] h = refl
+  named_once low (x ∷ xs) h = elim (cases_Bool (eqb (number x) n)) [
+    | inl t ↦
+        ap (λ (b : Bool). (b && p x) || list_any (λ (y : X). eqb (number y) n && p y) xs) t ∙ ap (λ (b : Bool). p x || b) (none_named (number x + 1) xs h.1 (omega (arith, eqb-true (number x) n t))) ∙ or_nothing (p x)
+        ∙ sym (ap (λ (b : Bool). holds_of p (cond b (Some x) (find (λ (y : X). eqb (number y) n) xs))) t)
+    | inr f ↦
+        ap (λ (b : Bool). (b && p x) || list_any (λ (y : X). eqb (number y) n && p y) xs) f ∙ named_once (number x + 1) xs h.1
+        ∙ sym (ap (λ (b : Bool). holds_of p (cond b (Some x) (find (λ (y : X). eqb (number y) n) xs))) f)
+  ]
+
+pub guest_is : (m : Machine) → IsSound m → (dev : Eui) (o : Option Visitor) → find (is_visitor dev) m.visitors ≡ o → (a : DevAddr) → holds_of (visitor_has a) o ≡ has (owner.Visitor dev) a m
+unfolding has
+guest_is m h dev o e a = ap (holds_of (visitor_has a)) (sym e) ∙ sym (named_once (λ (v : Visitor). v.dev_eui.0) (visitor_has a) dev.0 0 m.visitors h.visitors_in_order)
+
+pub ask_is : (m : Machine) → IsSound m → (n : ℕ) (o : Option OpenAsk) → find (has_number n) m.asks ≡ o → (a : DevAddr) → holds_of (asks_for a) o ≡ has (owner.Ask n) a m
+unfolding has
+ask_is m h n o e a = ap (holds_of (asks_for a)) (sym e) ∙ sym (named_once (λ (k : OpenAsk). k.number) (asks_for a) n 0 m.asks h.asks_in_order)
+
+pub device_is : (m : Machine) (i : ℕ) (o : Option Device) → slice_get m.devices i ≡ o → (a : DevAddr) → holds_of (device_has a) o ≡ has (owner.Device i) a m
+unfolding has
+device_is m i o e a = ap (holds_of (device_has a)) (sym e)
+
 -- ---- out of the table, and in again
 
 -- an owner that was left: what stood there stands there
 left_there : (p : Bool) (x : Option Owner) (o : Owner) → cond p None x ≡ Some o → (p ≡ false) × (x ≡ Some o)
 left_there true x o e = absurd (none_is_some o e)
 left_there false x o e = (refl, e)
-
-is_false : (b : Bool) → (b ≡ true → ⊥) → b ≡ false
-is_false true no = absurd (no refl)
-is_false false no = refl
 
 pub but_out : (who : Option Owner) (out : Owner → Bool) (t k : Table) (m : Machine) → HasOne m → TakenOut (λ (a : DevAddr). one_has who a m) t k → IsTableBut out t m → IsTableBut (λ (o : Owner). is_the_owner who o || out o) k m
 but_out who out t k m few w h = record {
@@ -258,6 +311,58 @@ but_same p q t m same h = record {
   there = λ o a kn e. let b = h.there o a kn e in (b.0, same o ∙ b.1);
   all = λ o a kn hs f. h.all o a kn hs (sym (same o) ∙ f);
 }
+
+-- ---- all that an event touches
+
+pub taken_touched : (w : Touched) (a b c d e : Table) (m : Machine) → HasOne m → TakenOut (λ (x : DevAddr). one_has w.holder x m) a b → TakenOut (λ (x : DevAddr). one_has w.closed x m) b c → TakenOut (λ (x : DevAddr). one_has w.asked x m) c d → TakenOut (λ (x : DevAddr). w.all_asks && list_any (asks_for x) m.asks) d e
+    → IsTable a m → IsTableBut (touches w) e m
+taken_touched w a b c d e m few h k l n is =
+    but_same (λ (o : Owner). w.all_asks && is_an_ask o || (is_the_owner w.asked o || (is_the_owner w.closed o || (is_the_owner w.holder o || false)))) (touches w) e m
+    (λ o. ap (λ (s : Bool). w.all_asks && is_an_ask o || (is_the_owner w.asked o || (is_the_owner w.closed o || s))) (sym (or_nothing (is_the_owner w.holder o))))
+    (but_asks w.all_asks (λ (o : Owner). is_the_owner w.asked o || (is_the_owner w.closed o || (is_the_owner w.holder o || false))) d e m few n
+    (but_out w.asked (λ (o : Owner). is_the_owner w.closed o || (is_the_owner w.holder o || false)) c d m few l
+    (but_out w.closed (λ (o : Owner). is_the_owner w.holder o || false) b c m few k
+    (but_out w.holder (λ (o : Owner). false) a b m few h is))))
+
+only_asks : (p q r s : Bool) → (not p && (not q && (not r && (s || (p || (q || r)))))) ≡ true → s ≡ true
+only_asks true q r s h = absurd (false≢true h)
+only_asks false true r s h = absurd (false≢true h)
+only_asks false false true s h = absurd (false≢true h)
+only_asks false false false true h = refl
+only_asks false false false false h = absurd (false≢true h)
+
+no_asks : (m : Machine) (o : Owner) (a : DevAddr) → m.asks ≡ [] → is_an_ask o ≡ true → has o a m ≡ false
+unfolding has
+no_asks m (owner.Device i) a e h = absurd (false≢true h)
+no_asks m (owner.Visitor d) a e h = absurd (false≢true h)
+no_asks m (owner.Ask n) a e h = ap (list_any (is_ask_with n a)) e
+
+pub put_touched : (w : Touched) (a b c d : Table) (m : Machine) → HasOne m → (w.all_asks ≡ true → m.asks ≡ []) → PutIn w.holder (λ (x : DevAddr). one_has w.holder x m) a b → PutIn w.closed (λ (x : DevAddr). one_has w.closed x m) b c → PutIn w.asked (λ (x : DevAddr). one_has w.asked x m) c d
+    → IsTableBut (touches w) a m → IsTable d m
+put_touched w a b c d m few none h k l is =
+    all_back (λ (o : Owner). not (is_the_owner w.asked o) && (not (is_the_owner w.closed o) && (not (is_the_owner w.holder o) && touches w o))) d m
+    (but_in w.asked (λ (o : Owner). not (is_the_owner w.closed o) && (not (is_the_owner w.holder o) && touches w o)) c d m few l
+    (but_in w.closed (λ (o : Owner). not (is_the_owner w.holder o) && touches w o) b c m few k
+    (but_in w.holder (touches w) a b m few h is)))
+    (λ o x y.
+      let asks = both w.all_asks (is_an_ask o) (only_asks (is_the_owner w.asked o) (is_the_owner w.closed o) (is_the_owner w.holder o) (w.all_asks && is_an_ask o) y) in
+      no_asks m o x (none asks.0) asks.1)
+
+pub all_asks_gone : (e : Event) (l k : Machine) → (touched_by e l).all_asks ≡ true → (on_event e k).asks ≡ []
+unfolding touched_by on_event
+all_asks_gone event.Opened l k h = refl
+all_asks_gone (event.Tables t) l k h = absurd (false≢true h)
+all_asks_gone (event.Kept r c) l k h = absurd (false≢true h)
+all_asks_gone (event.Asked w) l k h = absurd (false≢true h)
+all_asks_gone (event.Told t) l k h = absurd (false≢true h)
+all_asks_gone (event.Suspend i) l k h = absurd (false≢true h)
+all_asks_gone (event.Resume i) l k h = absurd (false≢true h)
+
+-- the table without those that an event touches is that of the state after it
+pub table_after : (e : Event) (at : ℕ) (l : Machine) (t : Table) → IsTableBut (touches (touched_by e l)) t l → IsTableBut (touches (touched_by e l)) t (entered at (on_event e (wake (wakes e l) l)))
+table_after e at l t h =
+    let k = on_event e (wake (wakes e l) l) in
+    table_moved (touches (touched_by e l)) t l (entered at k) (λ o a f. has_as k (entered at k) o a refl refl refl ∙ untouched e l o a f) h
 
 -- ---- what has ended
 

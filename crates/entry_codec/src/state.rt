@@ -151,8 +151,8 @@ impl State {
         self.current.wake(who);
         self.due = self.due.min(event_end(&event));
         let kept = self.current.enter(&self.index, event);
-        self.current.put_touched(&mut self.addresses, &touched);
         self.current.count(moment);
+        self.current.put_touched(&mut self.addresses, &touched);
         keep(&mut self.kept, kept);
     }
 }

@@ -152,8 +152,12 @@ one_owner m few a (owner.Visitor dev) (owner.Device j) h k = absurd (omega (arit
 one_owner m few a (owner.Visitor d) (owner.Visitor e) h k = elim (cases_Bool (eqb d.0 e.0)) [
   | inl same ↦ ap (λ (n : ℕ). owner.Visitor (record { 0 = n })) (eqb-true d.0 e.0 same)
   | inr f ↦
-      absurd (omega (arith, few a, any_two (is_guest_with d a) (is_guest_with e a) (visitor_uses a) (guest_counted d a) (guest_counted e a)
-      (λ v p q. not_both (eqb d.0 e.0) (eq-eqb d.0 e.0 (sym (eqb-true v.dev_eui.0 d.0 (both (is_visitor d v) (visitor_has a v) p).0) ∙ eqb-true v.dev_eui.0 e.0 (both (is_visitor e v) (visitor_has a v) q).0)) f) m.visitors h k))
+      absurd (omega (
+        arith,
+        few a,
+        any_two (is_guest_with d a) (is_guest_with e a) (visitor_uses a) (guest_counted d a) (guest_counted e a)
+            (λ v p q. not_both (eqb d.0 e.0) (eq-eqb d.0 e.0 (sym (eqb-true v.dev_eui.0 d.0 (both (is_visitor d v) (visitor_has a v) p).0) ∙ eqb-true v.dev_eui.0 e.0 (both (is_visitor e v) (visitor_has a v) q).0)) f) m.visitors h k,
+      ))
 ]
 one_owner m few a (owner.Visitor dev) (owner.Ask n) h k = absurd (omega (arith, few a, visitors_one m a dev h, asks_one m a n k))
 one_owner m few a (owner.Ask n) (owner.Device j) h k = absurd (omega (arith, few a, asks_one m a n h, devices_one m a j k))
@@ -161,8 +165,12 @@ one_owner m few a (owner.Ask n) (owner.Visitor dev) h k = absurd (omega (arith, 
 one_owner m few a (owner.Ask n) (owner.Ask l) h k = elim (cases_Bool (eqb n l)) [
   | inl e ↦ ap (λ (x : ℕ). owner.Ask x) (eqb-true n l e)
   | inr f ↦
-      absurd (omega (arith, few a, any_two (is_ask_with n a) (is_ask_with l a) (ask_uses a) (numbered_counted n a) (numbered_counted l a)
-      (λ x p q. not_both (eqb n l) (eq-eqb n l (sym (eqb-true x.number n (both (has_number n x) (asks_for a x) p).0) ∙ eqb-true x.number l (both (has_number l x) (asks_for a x) q).0)) f) m.asks h k))
+      absurd (omega (
+        arith,
+        few a,
+        any_two (is_ask_with n a) (is_ask_with l a) (ask_uses a) (numbered_counted n a) (numbered_counted l a)
+            (λ x p q. not_both (eqb n l) (eq-eqb n l (sym (eqb-true x.number n (both (has_number n x) (asks_for a x) p).0) ∙ eqb-true x.number l (both (has_number l x) (asks_for a x) q).0)) f) m.asks h k,
+      ))
 ]
 
 pub same_owner_is : (o p : Owner) → is_same_owner o p ≡ true → o ≡ p
@@ -209,8 +217,8 @@ module _ {X : Type 0} where
   ]
     where
       fails : (b : Bool) → (b ≡ true → ⊥) → b ≡ false
-      fails true no = absurd (no refl)
-      fails false no = refl
+      fails true never = absurd (never refl)
+      fails false never = refl
 
   pub any-append : (p : X → Bool) (xs : List X) (y : X) → p y ≡ false → list_any p (xs ++ y ∷ []) ≡ list_any p xs
   any-append p [] y f = ap (λ (b : Bool). b || false) f
@@ -298,18 +306,18 @@ waking true who m o a e = has-on_slots (Some who) activated m o a (by who e)
 waking false who m o a e = refl
 
 untouched_by_drop : (k : RoamingKind) (sender : Sender) (dev : Eui) (m : Machine) (o : Owner) (a : DevAddr) → is_same_owner (owner.Visitor dev) o ≡ false → has o a (on_dropped k sender dev m) ≡ has o a m
+unfolding has is_same_owner
 untouched_by_drop kind.Held sender dev m o a e = has_as m (on_dropped kind.Held sender dev m) o a refl refl refl
 untouched_by_drop kind.Lent sender dev m o a e = has-on_place (place_of dev m) called_back m o a called_same
 untouched_by_drop kind.Visitor sender dev m o a e = by o e
   where
+    turned : (x y : ℕ) → eqb y x ≡ false → eqb x y ≡ false
+    turned x y f = grind arith
+
     by : (o : Owner) → is_same_owner (owner.Visitor dev) o ≡ false → has o a (on_dropped kind.Visitor sender dev m) ≡ has o a m
-    unfolding has is_same_owner
     by (owner.Device i) e = refl
     by (owner.Visitor d) e = any_kept (is_guest_with d a) (λ (v : Visitor). not (is_visitor dev v)) (λ v t. ap not (differs_too v.dev_eui.0 d.0 dev.0 (both (is_visitor d v) (visitor_has a v) t).0 (turned d.0 dev.0 e))) m.visitors
     by (owner.Ask n) e = refl
-
-    turned : (x y : ℕ) → eqb y x ≡ false → eqb x y ≡ false
-    turned x y f = grind arith
 
 untouched_by_change : (sender : Sender) (c : Change) (m : Machine) (o : Owner) (a : DevAddr) → is_the_owner (touched_by_change c m) o ≡ false → has o a (on_change sender c (wake (change_wakes c m) m)) ≡ has o a m
 unfolding on_change
@@ -358,12 +366,11 @@ untouched_by_close t m (owner.Visitor dev) a e = refl
 untouched_by_close t m (owner.Ask n) a e = without_kept (Some t) n a m.asks e
 
 untouched_by_effect : (n : ℕ) (w : Effect) (m : Machine) (o : Owner) (a : DevAddr) → is_the_owner (touched_by_effect w) o ≡ false → has o a (on_effect n w m) ≡ has o a m
-unfolding on_effect
+unfolding has is_same_owner on_effect visit
 untouched_by_effect n effect.Nothing m o a e = refl
 untouched_by_effect n (effect.Visitor w) m o a e = by o e
   where
     by : (o : Owner) → is_same_owner (owner.Visitor w.dev_eui) o ≡ false → has o a (on_effect n (effect.Visitor w) m) ≡ has o a m
-    unfolding has is_same_owner on_effect visit
     by (owner.Device i) e = refl
     by (owner.Visitor d) e = any-put (is_guest_with d a) visitor_number (new_visitor n w) (renewed n w) (ap (λ (b : Bool). b && visitor_has a (new_visitor n w)) e)
         (λ v same. let other : is_visitor d v ≡ false = ap (λ (x : ℕ). eqb x d.0) same ∙ e in (ap (λ (b : Bool). b && visitor_has a v) other, ap (λ (b : Bool). b && visitor_has a (renewed n w v)) other)) m.visitors
@@ -373,11 +380,10 @@ untouched_by_effect n (effect.Counter c) m o a e = has_as m (on_effect n (effect
 
 -- an event, with the activation before it, leaves the addresses of those that it doesn't touch
 pub untouched : (e : Event) (m : Machine) (o : Owner) (a : DevAddr) → touches (touched_by e m) o ≡ false → has o a (on_event e (wake (wakes e m) m)) ≡ has o a m
-unfolding on_event wakes touched_by
+unfolding has on_event wakes touched_by
 untouched event.Opened m o a e = by o e
   where
     by : (o : Owner) → touches (touched_by event.Opened m) o ≡ false → has o a (on_event event.Opened m) ≡ has o a m
-    unfolding has on_event touched_by
     by (owner.Device i) e = refl
     by (owner.Visitor dev) e = refl
     by (owner.Ask n) e = absurd (false≢true (sym e))

@@ -1,5 +1,5 @@
 -- The table of addresses is the one that the state tells, after each change.
-use Rattle.std.proofs.Common.{inl, inr, ◌<◌, length, get_or, take, ◌≡◌, ℕ, zero, suc, ◌+◌, ◌≤◌, Bool, true, false, cond, eqb, eq-eqb, List, [], ◌∷◌, map, Option, Some, None, option_map, refl, sym, ap, subst, ◌∙◌, arith}
+use Rattle.std.proofs.Common.{inl, inr, ◌<◌, length, get_or, take, add-one, ◌≡◌, ℕ, zero, suc, ◌+◌, ◌≤◌, Bool, true, false, cond, eqb, eq-eqb, List, [], ◌∷◌, map, Option, Some, None, option_map, refl, sym, ap, subst, ◌∙◌, arith}
 use Rattle.std.specs.Prelude.{◌&&◌, ◌||◌, find, is_some, not, position, slice_get, sum_by}
 use Rattle.std.specs.List.{filter, list_any}
 use Rattle.std.proofs.lemmas.Bool.{cases_Bool, eqb-true, false≢true}
@@ -9,14 +9,19 @@ use Rattle.wire_ids.specs.Lists.{holds_of}
 use Rattle.wire_ids.specs.declared.address.DevAddr.{DevAddr}
 use Rattle.wire_ids.specs.declared.eui.Eui.{Eui}
 use Rattle.wire_ids.proofs.Lists.{sum_by-map_le}
-use Rattle.address_table.specs.Table.{Table, knows, owner_of}
+use Rattle.address_table.specs.Table.{AreTaken, Table, knows, owner_of, window}
 use Rattle.address_table.specs.declared.owner.Owner.{Owner}
 use Rattle.address_table.specs.declared.owner.Owner.TheVariants as owner
 use Rattle.contexts.specs.declared.slots.Slots.{Slots}
 use Rattle.entry_codec.specs.Addresses.{IsTable, IsTableBut, PutIn, TakenOut, ask_ended, guest_ended, has, has_ended, holder_by, is_an_ask, is_ask_with, is_guest_with, is_the_owner, one_has, touched_by, touches}
-use Rattle.entry_codec.specs.LookUps.{asks_for, device_has, holder_from, holder_with, is_taken, lives, slot_has, slots_have, visitor_has, visitor_with}
-use Rattle.entry_codec.specs.Machine.{Machine, entered, has_number, is_open, is_visitor, lapse, on_event, visits, wake, wakes}
+use Rattle.entry_codec.specs.LookUps.{asks_for, device_has, holder_from, holder_with, is_taken, live_at, live_context, lives, slot_has, slots_have, visitor_has, visitor_with}
+use Rattle.entry_codec.specs.Machine.{Machine, after, entered, has_number, is_open, is_visitor, lapse, on_event, ready, visits, wake, wakes}
+use Rattle.agreements.specs.Config.{Config}
+use Rattle.entries.specs.declared.entry.Entry.{Entry}
 use Rattle.entry_codec.specs.Devices.{lapsed}
+use Rattle.entry_codec.specs.Empty.{empty}
+use Rattle.entry_codec.specs.Free.{Marks, addr_of}
+use Rattle.entry_codec.proofs.SoundEmpty.{uses_empty}
 use Rattle.entry_codec.specs.Ordered.{IsRisingFrom}
 use Rattle.entries.specs.declared.entry.Event.{Event}
 use Rattle.entries.specs.declared.entry.Event.TheVariants as event
@@ -35,13 +40,13 @@ use Rattle.entry_codec.proofs.SoundDevices.{use-lapsed}
 use Rattle.entry_codec.proofs.Sums.{holds_same}
 use Rattle.entry_codec.proofs.Window.{any_filter}
 
-or_nothing : (b : Bool) → (b || false) ≡ b
+pub or_nothing : (b : Bool) → (b || false) ≡ b
 or_nothing true = refl
 or_nothing false = refl
 
-is_false : (b : Bool) → (b ≡ true → ⊥) → b ≡ false
-is_false true no = absurd (no refl)
-is_false false no = refl
+pub is_false : (b : Bool) → (b ≡ true → ⊥) → b ≡ false
+is_false true never = absurd (never refl)
+is_false false never = refl
 
 none_is_some : {A : Type 0} (x : A) → None ≡ Some x → ⊥
 none_is_some x e = absurd cc
@@ -86,19 +91,22 @@ taken_as p q a b same h = record { known = h.known; owners = λ x. h.owners x �
 pub put_as : (who : Option Owner) (p q : DevAddr → Bool) (a b : Table) → ((x : DevAddr) → p x ≡ q x) → PutIn who p a b → PutIn who q a b
 put_as who p q a b same h = record { known = h.known; owners = λ x t. h.owners x t ∙ ap (λ (t : Bool). cond t who (owner_of x a)) (same x) }
 
+pub none_put : (who : Option Owner) (a : Table) → PutIn who (λ (x : DevAddr). false) a a
+none_put who a = record { known = λ x k. k; owners = λ x k. refl }
+
 pub none_taken : (a : Table) → TakenOut (λ (x : DevAddr). false) a a
 none_taken a = record { known = λ x. refl; owners = λ x. refl }
 
 pub taken_more : {X : Type 0} (p : DevAddr → X → Bool) (xs : List X) (i : ℕ) (d : X) (a b c : Table) → i < length xs → TakenOut (λ (x : DevAddr). list_any (p x) (take i xs)) a b → TakenOut (λ (x : DevAddr). p x (get_or xs i d)) b c → TakenOut (λ (x : DevAddr). list_any (p x) (take (i + 1) xs)) a c
 taken_more p xs i d a b c lt h k =
-    taken_as (λ (x : DevAddr). list_any (p x) (take i xs) || p x (get_or xs i d)) (λ (x : DevAddr). list_any (p x) (take (i + 1) xs)) a c (λ x. any_next (p x) xs i d lt)
+    taken_as (λ (x : DevAddr). list_any (p x) (take i xs) || p x (get_or xs i d)) (λ (x : DevAddr). list_any (p x) (take (i + 1) xs)) a c (λ x. any_next (p x) xs i d lt ∙ ap (λ (n : ℕ). list_any (p x) (take n xs)) (sym (add-one i)))
     (taken_then (λ (x : DevAddr). list_any (p x) (take i xs)) (λ (x : DevAddr). p x (get_or xs i d)) a b c h k)
   where
     or_swap : (x y z : Bool) → ((x || y) || z) ≡ (x || (y || z))
     or_swap true y z = refl
     or_swap false y z = refl
 
-    any_next : {X : Type 0} (q : X → Bool) (xs : List X) (i : ℕ) (d : X) → i < length xs → (list_any q (take i xs) || q (get_or xs i d)) ≡ list_any q (take (i + 1) xs)
+    any_next : {X : Type 0} (q : X → Bool) (xs : List X) (i : ℕ) (d : X) → i < length xs → (list_any q (take i xs) || q (get_or xs i d)) ≡ list_any q (take (suc i) xs)
     any_next q [] i d lt = absurd (omega (arith, lt))
     any_next q (x ∷ xs) zero d lt = sym (or_nothing (q x))
     any_next q (x ∷ xs) (suc i) d lt = or_swap (q x) (list_any q (take i xs)) (q (get_or xs i d)) ∙ ap (λ (b : Bool). q x || b) (any_next q xs i d (omega (arith, lt)))
@@ -169,10 +177,10 @@ pub but_in : (who : Option Owner) (out : Owner → Bool) (t k : Table) (m : Mach
 but_in who out t k m few w h = record {
   there = λ o a kn e. found_there ((has o a m ≡ true) × ((not (is_the_owner who o) && out o) ≡ false)) (one_has who a m) who (owner_of a t) o (sym (w.owners a kn) ∙ e)
       (λ y is.
-        let hs : has o a m ≡ true = sym (ap (λ (q : Option Owner). one_has q a m) is) ∙ y in (
-          hs,
-          ap (λ (s : Bool). not s && out o) (is_the_one m few a who o y hs),
-        ))
+      let hs : has o a m ≡ true = sym (ap (λ (q : Option Owner). one_has q a m) is) ∙ y in (
+        hs,
+        ap (λ (s : Bool). not s && out o) (is_the_one m few a who o y hs),
+      ))
       (λ n is. let b = h.there o a (w.known a kn) is in (b.0, back (is_the_owner who o) (out o) b.1));
   all = λ o a kn hs outs. elim (cases_Bool (is_the_owner who o)) [
     | inl y ↦
@@ -288,9 +296,9 @@ but_asks all out t k m few w h = record {
   all = λ o a kn hs outs.
       let n = neither (all && is_an_ask o) (out o) outs in
       let other : (all && list_any (asks_for a) m.asks) ≡ false = is_false (all && list_any (asks_for a) m.asks) (λ y.
-        let two = both all (list_any (asks_for a) m.asks) y in
-        let who = ask_there m a two.1 in
-        not_both (all && is_an_ask o) (ap (λ (s : Bool). s && is_an_ask o) two.0 ∙ ap is_an_ask (one_owner m few a o (owner.Ask who.0) hs who.1)) n.0) in
+      let two = both all (list_any (asks_for a) m.asks) y in
+      let who = ask_there m a two.1 in
+      not_both (all && is_an_ask o) (ap (λ (s : Bool). s && is_an_ask o) two.0 ∙ ap is_an_ask (one_owner m few a o (owner.Ask who.0) hs who.1)) n.0) in
       w.owners a ∙ ap (λ (s : Bool). cond s None (owner_of a t)) other ∙ h.all o a (sym (w.known a) ∙ kn) hs n.1;
 }
 
@@ -345,8 +353,8 @@ put_touched w a b c d m few none h k l is =
     (but_in w.closed (λ (o : Owner). not (is_the_owner w.holder o) && touches w o) b c m few k
     (but_in w.holder (touches w) a b m few h is)))
     (λ o x y.
-      let asks = both w.all_asks (is_an_ask o) (only_asks (is_the_owner w.asked o) (is_the_owner w.closed o) (is_the_owner w.holder o) (w.all_asks && is_an_ask o) y) in
-      no_asks m o x (none asks.0) asks.1)
+    let asks = both w.all_asks (is_an_ask o) (only_asks (is_the_owner w.asked o) (is_the_owner w.closed o) (is_the_owner w.holder o) (w.all_asks && is_an_ask o) y) in
+    no_asks m o x (none asks.0) asks.1)
 
 pub all_asks_gone : (e : Event) (l k : Machine) → (touched_by e l).all_asks ≡ true → (on_event e k).asks ≡ []
 unfolding touched_by on_event
@@ -363,6 +371,19 @@ pub table_after : (e : Event) (at : ℕ) (l : Machine) (t : Table) → IsTableBu
 table_after e at l t h =
     let k = on_event e (wake (wakes e l) l) in
     table_moved (touches (touched_by e l)) t l (entered at k) (λ o a f. has_as k (entered at k) o a refl refl refl ∙ untouched e l o a f) h
+
+pub table_stepped : (m : Machine) (e : Entry) (l k : Machine) (w : Touched) (t : Table) → l ≡ lapse e.moment.0 m → k ≡ after m e → w ≡ touched_by e.event l → IsTableBut (touches w) t l → IsTableBut (touches w) t k
+unfolding ready
+table_stepped m e l k w t is_l is_k is_w h =
+    let before : IsTableBut (touches (touched_by e.event l)) t l = subst (λ (x : Touched). IsTableBut (touches x) t l) is_w h in
+    let same : k ≡ entered e.moment.0 (on_event e.event (wake (wakes e.event l) l)) = is_k ∙ ap (λ (x : Machine). entered e.moment.0 (on_event e.event (wake (wakes e.event x) x))) (sym is_l) in
+    subst (λ (x : Touched). IsTableBut (touches x) t k) (sym is_w) (subst (λ (x : Machine). IsTableBut (touches (touched_by e.event l)) t x) (sym same) (table_after e.event e.moment.0 l t before))
+
+pub table_empty : (c : Config) (t : Table) → ((a : DevAddr) → owner_of a t ≡ None) → IsTable t (empty c)
+table_empty c t none = record {
+  there = λ o a kn e. absurd (none_is_some o (sym (none a) ∙ e));
+  all = λ o a kn hs f. absurd (omega (arith, has_used (empty c) a o hs, uses_empty a c));
+}
 
 -- ---- what has ended
 
@@ -439,7 +460,7 @@ found_device m a i e = by (slice_get m.devices i) refl
     by : (o : Option Device) → slice_get m.devices i ≡ o → holds_of (device_has a) o ≡ true
     by (Some d) is = find_passes (device_has a) m.devices d (find-place (device_has a) m.devices (Some i) e ∙ is)
     by None is = elim (slice_get_cases m.devices i).1 [
-      | inl y ↦ absurd (none_is_some y.0 (sym is ∙ y.1.1.0))
+      | inl y ↦ absurd (none_is_some y.0 (sym is ∙ y.2))
       | inr n ↦ absurd (omega (arith, n.0, place_within (device_has a) m.devices i e))
     ]
 
@@ -473,9 +494,11 @@ taken_known t m a h kn = by (owner_of a t) refl
   where
     or_first : (x y z : Bool) → x ≡ true → ((x || y) || z) ≡ true
     or_first x y z e = ap (λ (b : Bool). (b || y) || z) e
+
     or_second : (x y z : Bool) → y ≡ true → ((x || y) || z) ≡ true
     or_second true y z e = refl
     or_second false y z e = ap (λ (b : Bool). b || z) e
+
     or_third : (x y z : Bool) → z ≡ true → ((x || y) || z) ≡ true
     or_third true y z e = refl
     or_third false true z e = refl
@@ -492,3 +515,15 @@ taken_known t m a h kn = by (owner_of a t) refl
         ap (λ (b : Bool). (b || list_any (visitor_has a) m.visitors) || list_any (asks_for a) m.asks) (is_false (list_any (device_has a) m.devices) (λ y. let w = device_there m a y in nobody is (owner.Device w.0) w.1))
         ∙ ap (λ (b : Bool). b || list_any (asks_for a) m.asks) (is_false (list_any (visitor_has a) m.visitors) (λ y. let w = guest_there m a y in nobody is (owner.Visitor (record { 0 = w.0 })) w.1))
         ∙ is_false (list_any (asks_for a) m.asks) (λ y. let w = ask_there m a y in nobody is (owner.Ask w.0) w.1)
+
+pub context_known : (t : Table) (m : Machine) (a : DevAddr) → IsTable t m → knows a t ≡ true → live_at a (holder_by (owner_of a t)) m ≡ live_context a m
+unfolding live_context
+context_known t m a h kn = ap (λ (o : Option Holder). live_at a o m) (sym (holder_known t m a h kn))
+
+pub marks_known : (t : Table) (m : Machine) (first : ℕ) (old taken : List Bool) → IsTable t m → AreTaken taken t → t.first ≡ first → length old ≡ window → ((i : ℕ) → i < window → get_or old i false ≡ false) → Marks first (λ (a : DevAddr). is_taken a m) old taken
+marks_known t m first old taken h are is len fresh = subst (λ (n : ℕ). Marks n (λ (a : DevAddr). is_taken a m) old taken) is (
+  are.all ∙ sym len,
+  λ i lt.
+      let within : i < window = omega (arith, lt, len) in
+      are.each i within ∙ sym (taken_known t m (addr_of (t.first + i)) h (are.within i within)) ∙ ap (λ (b : Bool). b || is_taken (addr_of (t.first + i)) m) (sym (fresh i within)),
+)

@@ -88,7 +88,9 @@ impl Now {
     fn guest(&self, dev: Eui) -> Option<&Visitor>
         ensures { option_copied result ≡ find (is_visitor dev) self.now.machine.visitors }
     {
-        self.visitors.iter().find(|visitor| visitor.dev_eui.0 == dev.0)
+        self.visitors
+            .iter()
+            .find(|visitor| visitor.dev_eui.0 == dev.0)
     }
 
     fn ask_numbered(&self, number: u64) -> Option<&OpenAsk>

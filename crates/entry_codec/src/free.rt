@@ -145,13 +145,8 @@ impl Now {
     }
 
     // The same, by the table where it has this window.
-    fn mark_known(
-        &self,
-        table: Option<&AddressTable>,
-        marks: &mut [bool],
-        first: u32,
-        at: u64,
-    )
+    #[tactic(auto, using(crate::proofs::Tabled::marks_known))]
+    fn mark_known(&self, table: Option<&AddressTable>, marks: &mut [bool], first: u32, at: u64)
         requires size { length marks.old ≡ window }
         requires fresh { (i : ℕ) → i < window → slice_index_or marks.old i false ≡ false }
         requires table { IfSome table (λ t. IsTable t.now (lapse at self.now.machine)) }

@@ -144,14 +144,15 @@ impl State {
     }
 
     /// The context with this address, found in one step.
+    #[tactic(auto, using(crate::proofs::Tabled::context_known))]
     pub fn live_context(&self, addr: DevAddr, at: Moment) -> Option<LiveContext>
         ensures { result ≡ live_context addr (lapse at.0 self.now.now) }
     {
-        if at.0 < self.due && self.addresses.knows(addr) {
-            let owner = self.addresses.owner(addr);
-            self.current.context_of(owner, addr, at.0)
-        } else {
-            self.current.live_context(addr, at.0)
+        match self.table_at(at.0) {
+            Some(table) if table.knows(addr) => {
+                self.current.context_of(table.owner(addr), addr, at.0)
+            }
+            _ => self.current.live_context(addr, at.0),
         }
     }
 
@@ -168,12 +169,8 @@ impl State {
         ensures { option_map (λ (a : dev_addr.DevAddr). a.0) result
             ≡ free_address net (wake who (lapse at.0 self.now.now)) }
     {
-        let table = if at.0 < self.due {
-            Some(&self.addresses)
-        } else {
-            None
-        };
-        self.current.free_address(table, net, who, at.0)
+        self.current
+            .free_address(self.table_at(at.0), net, who, at.0)
     }
 
     /// Whether the device may visit under the address of this ask.

@@ -1,4 +1,4 @@
-ghost use Rattle.std.specs.Prelude.{◌≡◌, ◌≤◌, ◌<◌, ◌^◌, length, IsTrue, IfOk, OnOk};
+ghost use Rattle.std.specs.Prelude.{◌≡◌, ◌≤◌, ◌<◌, ◌^◌, length, IsTrue, IfOk, IfSome, OnOk};
 ghost use Rattle.std.specs.Option.{option_copied};
 ghost use Rattle.entry_codec.specs.Addresses.{IsTable};
 ghost use Rattle.entry_codec.specs.Empty.{empty, empty_kept};
@@ -13,12 +13,12 @@ ghost use Rattle.entry_codec.specs.Machine.{place_of, wake};
 ghost use Rattle.entry_codec.specs.Sound.{IsSound};
 ghost use Rattle.entry_codec.specs.State.{kept_after, needs};
 
+use crate::KeptAnswers;
 use crate::ends::event_end;
 use crate::index::Index;
 use crate::kept::keep;
 use crate::made::empty_kept;
 use crate::now::Now;
-use crate::KeptAnswers;
 use address_table::AddressTable;
 use agreements::Tables;
 use entries::Entry;
@@ -106,6 +106,17 @@ impl State {
         })
     }
 
+    // The table of addresses, while nothing has ended.
+    pub(crate) fn table_at(&self, at: u64) -> Option<&AddressTable>
+        ensures { IfSome result (λ t. IsTable t.now (lapse at self.now.now)) }
+    {
+        if at < self.due {
+            Some(&self.addresses)
+        } else {
+            None
+        }
+    }
+
     /// What holds of every state.
     pub fn sound(&self)
         ensures sound { IsSound self.now.now }
@@ -145,14 +156,14 @@ impl State {
             &mut self.due,
             moment.0,
         );
-        let touched = self.current.touched(&self.index, &event);
-        self.current.take_touched(&mut self.addresses, &touched);
+        let owners = self.current.touched(&self.index, &event);
+        self.current.take_touched(&mut self.addresses, &owners);
         let who = self.current.wakes(&event);
         self.current.wake(who);
         self.due = self.due.min(event_end(&event));
         let kept = self.current.enter(&self.index, event);
         self.current.count(moment);
-        self.current.put_touched(&mut self.addresses, &touched);
+        self.current.put_touched(&mut self.addresses, &owners);
         keep(&mut self.kept, kept);
     }
 }

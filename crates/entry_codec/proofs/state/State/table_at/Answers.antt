@@ -1,4 +1,4 @@
-use Rattle.std.proofs.Common.{ap, subst, sym, ◌∙◌}
+use Rattle.std.proofs.Common.{ap, arith, subst, sym, ◌∙◌}
 use Rattle.entry_codec.specs.Addresses.{IsTable}
 use Rattle.entry_codec.specs.Machine.{Machine, lapse}
 use Rattle.entry_codec.specs.State.{Stored}

@@ -1,5 +1,5 @@
 -- Who has an address: at most one, and what a step leaves to those that it doesn't touch.
-use Rattle.std.proofs.Common.{inl, inr, ◌≡◌, ◌≢◌, ℕ, zero, suc, ◌+◌, ◌≤◌, Bool, true, false, cond, eqb, eq-eqb, List, [], ◌∷◌, ◌++◌, map, Option, Some, None, option_map, refl, sym, ap, subst, ◌∙◌, arith}
+use Rattle.std.proofs.Common.{inl, inr, ◌≡◌, ◌≢◌, ℕ, zero, suc, ◌+◌, ◌≤◌, Bool, true, false, cond, eqb, eq-eqb, List, [], ◌∷◌, ◌++◌, Option, Some, None, option_map, refl, sym, ap, subst, ◌∙◌, arith}
 use Rattle.std.specs.Prelude.{◌&&◌, ◌||◌, find, nat_lt, not, position, slice_get, sum_by}
 use Rattle.std.specs.List.{filter, list_any}
 use Rattle.std.proofs.lemmas.Bool.{cases_Bool, eqb-true, false≢true}
@@ -23,7 +23,7 @@ use Rattle.entries.specs.declared.change.RoamingKind.{RoamingKind}
 use Rattle.entries.specs.declared.change.RoamingKind.TheVariants as kind
 use Rattle.entries.specs.declared.entry.Event.{Event}
 use Rattle.entries.specs.declared.entry.Event.TheVariants as event
-use Rattle.entry_codec.specs.Addresses.{ask_owner, has, is_an_ask, is_ask_with, is_guest_with, is_same_owner, is_the_owner, one_has, owner_by, touched_by, touched_by_change, touched_by_effect, touches, visitor_owner}
+use Rattle.entry_codec.specs.Addresses.{ask_owner, has, is_ask_with, is_guest_with, is_same_owner, is_the_owner, one_has, owner_by, touched_by, touched_by_change, touched_by_effect, touches, visitor_owner}
 use Rattle.entry_codec.specs.Devices.{called_back, heard, in_slots, joined, lent_out, marked, queued, rejoined, uses_pending, with_grant}
 use Rattle.entry_codec.specs.LookUps.{asks_for, device_has, slot_has, slots_have, visitor_has}
 use Rattle.entry_codec.specs.Machine.{Machine, ask_of, asked, change_wakes, closed, granted_by, has_number, holder_of, in_visitor, is_other, is_visitor, item_of, lent_to, new_visitor, on_change, on_device, on_dropped, on_effect, on_event, on_place, on_slots, on_visitor, place_of, renewed, visit, visitor_number, visitor_waking, wake, wakes, with_count, with_rejoin, without}

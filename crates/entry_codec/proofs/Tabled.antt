@@ -14,7 +14,7 @@ use Rattle.address_table.specs.declared.owner.Owner.{Owner}
 use Rattle.address_table.specs.declared.owner.Owner.TheVariants as owner
 use Rattle.contexts.specs.declared.slots.Slots.{Slots}
 use Rattle.entry_codec.specs.Addresses.{IsTable, IsTableBut, PutIn, TakenOut, ask_ended, guest_ended, has, has_ended, holder_by, is_an_ask, is_ask_with, is_guest_with, is_the_owner, one_has, touched_by, touches}
-use Rattle.entry_codec.specs.LookUps.{asks_for, device_has, holder_from, holder_with, is_taken, live_at, live_context, lives, slot_has, slots_have, visitor_has, visitor_with}
+use Rattle.entry_codec.specs.LookUps.{asks_for, device_has, holder_from, holder_with, is_taken, live_at, live_context, lives, slot_has, slots_have, visitor_has}
 use Rattle.entry_codec.specs.Machine.{Machine, after, entered, has_number, is_open, is_visitor, lapse, on_event, ready, visits, wake, wakes}
 use Rattle.agreements.specs.Walk.{Config}
 use Rattle.entries.specs.declared.entry.Entry.{Entry}

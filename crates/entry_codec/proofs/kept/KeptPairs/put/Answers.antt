@@ -1,4 +1,4 @@
-use Rattle.std.proofs.Common.{rules, ◌≡◌, ◌∷◌, ◌%◌, ◌^◌, List, ℕ, ap, map, sum, sym, take, ◌∙◌}
+use Rattle.std.proofs.Common.{rules, ◌∷◌, ◌%◌, ◌^◌, List, ℕ, ap, map, sum, sym, take, ◌∙◌}
 use Rattle.std.proofs.lemmas.List.{take-map}
 use Rattle.entry_codec.specs.declared.kept.KeptPair.{KeptPair}
 use Rattle.entry_codec.proofs.kept.KeptPairs.put.Goals as goal

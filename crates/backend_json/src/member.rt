@@ -26,7 +26,6 @@ pub(crate) enum Key {
     RxDelay,
     CfList,
     SessionKeyId,
-    DataRate,
 }
 
 impl Key {
@@ -49,7 +48,6 @@ impl Key {
             Key::RxDelay => "RxDelay",
             Key::CfList => "CFList",
             Key::SessionKeyId => "SessionKeyID",
-            Key::DataRate => "DataRate",
         }
     }
 

@@ -1,7 +1,6 @@
 mod Sets
 mod Sessions
 pub mod Lapsing
-pub mod Homes
 mod JoinFrames
 pub mod Causes
 mod Order

@@ -6,15 +6,14 @@ ghost use Rattle.key_vault.specs.Table.{app_at, nwk_at};
 ghost use Rattle.entitlement.specs.Keys.{entries_of};
 ghost use Rattle.entry_codec.specs.Machine.{lapse};
 ghost use Rattle.js_core.specs.Found.{found_of};
-ghost use Rattle.js_core.specs.Replies.{accept_of, answer_kind, app_s_key_answer};
+ghost use Rattle.js_core.specs.Replies.{accept_kind, accept_of, answer_kind, app_s_key_answer};
 ghost use Rattle.js_core.specs.Replies.{app_s_key_success_at, entries_for, home_ns_success_at};
 ghost use Rattle.js_core.specs.Replies.{join_members, join_success, js_decided, no_facts};
-ghost use Rattle.js_core.specs.Replies.{outcome_of, refused, refuses, success_of};
+ghost use Rattle.js_core.specs.Replies.{outcome_of, refused, refuses, rejoin_kind, success_of};
 ghost use Rattle.js_core.specs.Rules.{app_s_key_rules_at, by_rules, home_ns_rules_at, join_rules};
 ghost use Rattle.js_core.specs.Rules.{rules_of};
 
 use crate::found::find;
-use crate::home::home_accept;
 use crate::keys::{answer_keys, application_key};
 use crate::rules::{JoinTarget, app_s_key_target, join_target};
 use crate::step::change;
@@ -25,9 +24,9 @@ use backend_json::{
     JoinRequest, Message, Outcome, Refusal, Request, SessionKeyId,
 };
 use entitlement::{AnswerKind, Facts, KeySet, keys_for, role_of};
-use entries::{Change, OwnContext};
+use entries::Change;
 use entry_codec::State;
-use join_frames::{Accept, JoinUp, accept_bytes};
+use join_frames::{Accept, AcceptKind, JoinUp, accept_bytes};
 use key_vault::{BlockFn, Vault};
 use std::alloc::Global;
 use wire_ids::{Decision, Memory, Moment, Seed, Text};
@@ -76,14 +75,33 @@ fn entitled_set(
 
 // ---- joins and rejoins
 
+fn accept_kind(up: &JoinUp) -> AcceptKind
+    ensures { result ≡ accept_kind up.now }
+{
+    match up {
+        JoinUp::Join { .. } => AcceptKind::Join,
+        JoinUp::Rejoin02 { kind, .. } => {
+            if *kind == 0 {
+                AcceptKind::Rejoin0
+            } else {
+                AcceptKind::Rejoin2
+            }
+        }
+        JoinUp::Rejoin1 { .. } => AcceptKind::Rejoin1,
+    }
+}
+
 fn accept_of(up: &JoinUp, request: &JoinRequest, row: &DeviceRow, seed: Seed) -> Accept
     ensures { result ≡ accept_of up.now request.now row.now seed }
 {
-    let own = OwnContext {
-        dev_addr: request.dev_addr,
+    Accept {
+        kind: accept_kind(up),
+        dev: row.dev_eui,
+        seed,
+        net: row.home,
+        addr: request.dev_addr,
         radio: request.radio,
-    };
-    home_accept(up, row, seed, &own)
+    }
 }
 
 fn answer_kind(activation: Activation) -> AnswerKind
@@ -163,7 +181,7 @@ fn join_decision<'a, E: BlockFn, D: BlockFn>(
         Ok(target) => {
             let members = join_members(alloc, tables, vault, activation, &head, request, &target)?;
             let outcome = outcome_of(activation, members);
-            let change = change(target.number, &target.step, None);
+            let change = change(target.number, &target.step);
             Ok(Decision::Accept(Answer::Headed { head, outcome }, change))
         }
     }
@@ -287,15 +305,13 @@ fn decide<'a, E: BlockFn, D: BlockFn>(
             Ok(app_s_key_decision(tables, vault, state, head, &request))
         }
         Request::HomeNSReq(request) => Ok(home_ns_decision(tables, state, head, &request)),
-        Request::UplinkReq(_) | Request::Unknown => {
-            Ok(Decision::Reply(refused(head, Refusal::Type)))
-        }
+        Request::Unknown => Ok(Decision::Reply(refused(head, Refusal::Type))),
     }
 }
 
 /// What a request comes to from the rule of its frame's size on, in the state at this moment: it is
-/// refused for the first rule that holds, and else succeeds. A request of a type that isn't a join
-/// server's is refused. The one error is want of memory.
+/// refused for the first rule that holds, and else succeeds. A request of a type that no one may
+/// send is refused. The one error is want of memory.
 #[tactic(auto, using(crate::proofs::Lapsing::lapse_unread))]
 pub fn js_decide<'a, E: BlockFn, D: BlockFn>(
     alloc: Global,

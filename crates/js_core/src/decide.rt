@@ -270,15 +270,7 @@ fn decide<'a, E: BlockFn, D: BlockFn>(
 {
     match request {
         Request::JoinReq(request) => {
-            join_decision(
-                alloc,
-                tables,
-                vault,
-                state,
-                Activation::Join,
-                head,
-                request,
-            )
+            join_decision(alloc, tables, vault, state, Activation::Join, head, request)
         }
         Request::RejoinReq(request) => {
             join_decision(
@@ -291,9 +283,7 @@ fn decide<'a, E: BlockFn, D: BlockFn>(
                 request,
             )
         }
-        Request::AppSKeyReq(request) => {
-            app_s_key_decision(tables, vault, state, head, request)
-        }
+        Request::AppSKeyReq(request) => { app_s_key_decision(tables, vault, state, head, request) }
         Request::HomeNSReq(request) => home_ns_decision(tables, state, head, request),
         Request::UplinkReq(_) => other_decision(head),
         Request::Unknown => other_decision(head),

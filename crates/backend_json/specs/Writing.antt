@@ -34,6 +34,7 @@ abbrev pub members_now : Written → AnswerMembers
 members_now m = record {
   app_s_key = option_map value_data m.app_s_key;
   dev_eui = option_map value_data m.dev_eui;
+  f_cnt_up = option_map value_data m.f_cnt_up;
   f_nwk_s_int_key = option_map value_data m.f_nwk_s_int_key;
   h_net_id = option_map value_data m.h_net_id;
   lifetime = option_map value_data m.lifetime;

@@ -1,8 +1,7 @@
 use crate::case::{Case, DiskCalls, Given, Life, Reads, Wanted};
 use crate::folder::Folder;
-use crate::journal::add_tables;
 use crate::refusal::Why;
-use crate::texts::{Texts, add, add_record_of, byte, bytes_of, moments, number, words};
+use crate::texts::{Texts, add, add_in_form, byte, bytes_of, moments, number, words};
 use desk_top::SAMPLE_TABLES;
 use std::alloc::{AllocError, Global};
 use std::mem;
@@ -226,8 +225,8 @@ impl Draft {
         }
     }
 
-    // Adds to what the disk holds before the run, to the journal that is wanted behind it, or to the
-    // bytes that are.
+    // Adds to what the disk holds before the run, to the journal that is wanted behind it, or to
+    // the bytes that are.
     fn add_to_disk(
         &mut self,
         alloc: Global,
@@ -236,22 +235,20 @@ impl Draft {
         sign: &str,
         said: &str,
     ) -> Result<(), Why> {
-        let none = Vec::new(alloc);
-        let (form, bytes) = if let Some(form) = sign.strip_prefix('+') {
-            (form, self.given.disk.get_or_insert(none))
-        } else {
-            match sign.strip_prefix('=') {
-                Some("e") => ("e", self.wanted.journal.get_or_insert(none)),
-                Some("t") => ("t", self.wanted.journal.get_or_insert(none)),
-                Some(form) => (form, self.wanted.disk.get_or_insert(none)),
-                None => return Err(Why::UnknownWord),
-            }
-        };
-        match form {
-            "e" => add_record_of(alloc, texts, bytes, times, said),
-            "t" => Ok(add_tables(alloc, bytes, number(said)?, &self.given.tables)?),
-            _ => add(bytes, times, &bytes_of(alloc, texts, form, said)?),
+        let tables = &self.given.tables;
+        if let Some(form) = sign.strip_prefix('+') {
+            let held = self.given.disk.get_or_insert(Vec::new(alloc));
+            return add_in_form(alloc, texts, tables, form, times, said, held);
         }
+        let Some(form) = sign.strip_prefix('=') else {
+            return Err(Why::UnknownWord);
+        };
+        if form == "e" || form == "t" {
+            let journal = self.wanted.journal.get_or_insert(Vec::new(alloc));
+            return add_in_form(alloc, texts, tables, form, times, said, journal);
+        }
+        let disk = self.wanted.disk.get_or_insert(Vec::new(alloc));
+        add_in_form(alloc, texts, tables, form, times, said, disk)
     }
 }
 

@@ -23,19 +23,14 @@ pub(crate) fn add_record(journal: &mut Vec<u8>, record: &[u8]) -> Result<(), All
     Ok(())
 }
 
-/// Adds the entry Tables, made at this moment, with this text.
-pub(crate) fn add_tables(
-    alloc: Global,
-    journal: &mut Vec<u8>,
-    moment: u64,
-    text: &[u8],
-) -> Result<(), AllocError> {
+/// The entry Tables, made at this moment, with this text.
+pub(crate) fn tables_entry(alloc: Global, moment: u64, text: &[u8]) -> Result<Vec<u8>, AllocError> {
     let size = u32::try_from(text.len()).unwrap_or(u32::MAX);
     let mut entry = vec![in alloc; 2u8; 1]?;
     entry.extend_from_slice(&moment.to_be_bytes())?;
     entry.extend_from_slice(&size.to_be_bytes())?;
     entry.extend_from_slice(text)?;
-    add_record(journal, &entry)
+    Ok(entry)
 }
 
 // Where the gate behind the record of this gate stands, or None where the gate is the journal's

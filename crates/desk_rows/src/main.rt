@@ -1,5 +1,6 @@
 //! The program `desk_rows`: worked rows and conversations, which stand in case files. Each case is
-//! one or more runs of the desk over objects in memory. docs/TESTING.md gives the form of a case file.
+//! one or more runs of the desk over objects in memory. docs/TESTING.md gives the form of a case
+//! file.
 #![tactic(auto)]
 
 mod case;

@@ -33,9 +33,10 @@ fn run_case<W: Write>(alloc: Global, case: Case, out: &mut W) -> io::Result<bool
         × Appends (W.contents out.old) (W.contents out.new) lines) }
 {
     let Case { name, lives } = case;
-    let ended = live(alloc, lives)?;
-    out.write_all(&verdict(alloc, &name, &ended)?)?;
-    Ok(pass_all(&ended))
+    let lived = live(alloc, lives)?;
+    let ended = lived.as_slice();
+    out.write_all(&verdict(alloc, &name, ended)?)?;
+    Ok(pass_all(ended))
 }
 
 // Runs cases, one after another. Whether all went as they are wanted.

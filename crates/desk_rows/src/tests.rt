@@ -1,6 +1,7 @@
 use crate::case::{Ended, Outcome, Wanted};
 use crate::folder::Folder;
 use crate::form::read_cases;
+use crate::journal::{add_record, journal_in};
 use crate::refusal::{Refused, Why};
 use crate::verdict::verdict;
 use std::test::Fail;
@@ -86,5 +87,35 @@ fn a_difference_is_shown_with_both_texts(rt: HostRuntime) -> Result<(), Fail> {
         let said = verdict(alloc, "a", &ended)?;
         assert_eq!(rt; said.as_slice(), text.as_bytes());
     }
+    Ok(())
+}
+
+/// The journals of no record, of the record `ab`, and of that and `c`.
+const NONE: &[u8] = b"LWDESK-JOURNAL-1\0";
+
+const ONE: &[u8] = b"LWDESK-JOURNAL-1\x01\0\0\0\x02ab\0";
+
+const TWO: &[u8] = b"LWDESK-JOURNAL-1\x01\0\0\0\x02ab\x01\0\0\0\x01c\0";
+
+#[test]
+fn a_journal_is_read_up_to_its_end(rt: HostRuntime) -> Result<(), Fail> {
+    let alloc = rt.alloc();
+    let mut made = Vec::new(alloc);
+    add_record(&mut made, b"ab")?;
+    assert_eq!(rt; made.as_slice(), ONE);
+    add_record(&mut made, b"c")?;
+    assert_eq!(rt; made.as_slice(), TWO);
+    for (size, held) in [
+        (30, TWO),
+        (29, ONE),
+        (24, ONE),
+        (23, NONE),
+        (18, NONE),
+        (0, NONE),
+    ] {
+        let found = journal_in(alloc, TWO.get(..size).unwrap_or(b""))?;
+        assert_eq!(rt; found.as_slice(), held);
+    }
+    assert_eq!(rt; journal_in(alloc, b"this is no journal")?.len(), 0);
     Ok(())
 }

@@ -1,6 +1,6 @@
 //! What the lines of a case file say: numbers, digits, and texts in their forms.
 
-use crate::journal::add_record;
+use crate::journal::{add_record, tables_entry};
 use crate::refusal::Why;
 use std::alloc::{AllocError, Global};
 use std::str::FromStr;
@@ -122,17 +122,24 @@ pub(crate) fn add(all: &mut Vec<u8>, times: usize, bytes: &[u8]) -> Result<(), W
     Ok(())
 }
 
-/// Adds the record that stands in digits to a journal, so many times.
-pub(crate) fn add_record_of(
+/// Adds to the bytes of a disk, so many times: a record that stands in digits, the entry Tables of
+/// a moment with this tables text, or a text in another form.
+pub(crate) fn add_in_form(
     alloc: Global,
     texts: &Texts,
-    journal: &mut Vec<u8>,
+    tables: &[u8],
+    form: &str,
     times: usize,
     said: &str,
+    disk: &mut Vec<u8>,
 ) -> Result<(), Why> {
-    let record = digits(alloc, texts, said)?;
+    let bytes = match form {
+        "e" => digits(alloc, texts, said)?,
+        "t" => tables_entry(alloc, number(said)?, tables)?,
+        _ => return add(disk, times, &bytes_of(alloc, texts, form, said)?),
+    };
     for _ in 0..times {
-        add_record(journal, &record)?;
+        add_record(disk, &bytes)?;
     }
     Ok(())
 }

@@ -137,9 +137,9 @@ entry_fits c s now head body answer change can is =
 
 pub entries_fit : EntriesFit
 unfolding reaction
-entries_fit c keys s body now e valid sound can is_made =
+entries_fit c keys s body now e places sound can is_made =
     let a = outcome.accepted c keys s body now e is_made in
     let m = lapse now s.now in
-    let names = named_lapsed now c s.now (names_of_state c s.now valid can.state) in
+    let names = named_lapsed now c s.now (names_of_state c s.now places can.state) in
     let enters : Enters c a.head.sender m a.change = subst (Entering c a.head.sender m) a.accepts (judged_enters c (nwk_at keys) (app_at keys) m a.head a.request (kept_answer a.head.sender body s.kept) (is_asked body m) names (sound_lapsed now s.now sound)) in
     subst (λ (x : Entry). IsTrue (fits s.now x)) (sym a.is_entry) (entry_fits c s now a.head body a.answer a.change can enters)

@@ -1,5 +1,5 @@
 -- The entry of a gateway's request fits.
-use Rattle.std.proofs.Common.{◌≡◌, ◌<◌, ◌≤◌, ℕ, zero, suc, ◌+◌, ◌==◌, List, [], ◌∷◌, length, map, Bool, true, false, cond, not, Option, Some, None, option_map, is_some, is_none, refl, sym, ap, ◌∙◌, subst, arith, eqb-true}
+use Rattle.std.proofs.Common.{◌≡◌, ◌<◌, ◌≤◌, ℕ, zero, suc, ◌+◌, ◌==◌, List, [], ◌∷◌, length, map, Bool, true, false, cond, not, ◌||◌, Option, Some, None, option_map, option_and_then, is_some, is_none, refl, sym, ap, ◌∙◌, subst, arith, eqb-true}
 use Rattle.std.proofs.lemmas.Option.{get_or_from_slice_get, slice_get_within}
 use Rattle.std.specs.List.{AllByRecursion, list_any}
 use Rattle.std.specs.Prelude.{IsTrue, ◌&&◌, find, nat_le, nat_lt, position, slice_get}
@@ -161,3 +161,156 @@ module _ (c : Config) (nwk : ℕ → List ℕ) (m : Machine) (sender : Sender) (
 pub activation_fits : (c : Config) (nwk : ℕ → List ℕ) (m : Machine) (sender : Sender) (request : UplinkRequest) (up : JoinUp) (f : Found) (own : OwnContext) → IsActivation c nwk m request up f own
     → (let change = change_of f.device (step_of (nwk f.device) request.phy_payload up f.kept) (Some own) in IsTrue (fits_change sender change (wake (change_wakes change m) m)))
 activation_fits c nwk m sender request up f own is = fit_of c nwk m sender request f own up is (stands_at c m _ f is.is_found).is_kept
+
+-- ---- who speaks
+
+record IsSpeaker (c : Config) (m : Machine) (s : Speaker) : Type 0 where
+  pub slots : Slots
+  pub name : name_of c s.holder ≡ Some s.dev_eui
+  pub is_slots : slots_of (Some s.holder) m ≡ Some slots
+  pub is_context : in_slot s.pending slots ≡ Some s.context
+
+slots_in : (c : Config) (m : Machine) (live : LiveContext) (dev : Eui) (context : Context) (slots : Option Slots) → name_of c live.holder ≡ Some dev → slots_of (Some live.holder) m ≡ slots
+    → (option_and_then (in_slot live.pending) slots ≡ Some context) → IsSpeaker c m (record { holder = live.holder; dev_eui = dev; pending = live.pending; context = context })
+slots_in c m live dev context None name is e = absurd cc
+slots_in c m live dev context (Some slots) name is e = record { slots = slots; name = name; is_slots = is; is_context = e }
+
+speaker_in : (c : Config) (m : Machine) (live : LiveContext) (name : Option Eui) (context : Option Context) (s : Speaker) → name_of c live.holder ≡ name → context_at live m ≡ context → speaker_with live name context ≡ Some s → IsSpeaker c m s
+speaker_in c m live None context s is_name is_context e = absurd cc
+speaker_in c m live (Some dev) None s is_name is_context e = absurd cc
+speaker_in c m live (Some dev) (Some context) s is_name is_context e =
+    let made : Speaker = record { holder = live.holder; dev_eui = dev; pending = live.pending; context = context } in
+    let same : made ≡ s = cc in
+    subst (IsSpeaker c m) same (slots_in c m live dev context (slots_of (Some live.holder) m) is_name refl is_context)
+
+speaker_found : (c : Config) (m : Machine) (live : Option LiveContext) (s : Speaker) → speaker_at c m live ≡ Some s → IsSpeaker c m s
+speaker_found c m None s e = absurd cc
+speaker_found c m (Some live) s e = speaker_in c m live (name_of c live.holder) (context_at live m) s refl refl e
+
+is_speaker : (c : Config) (m : Machine) (addr : DevAddr) (s : Speaker) → speaker_of c m addr ≡ Some s → IsSpeaker c m s
+unfolding speaker_of
+is_speaker c m addr s e = speaker_found c m (live_context addr m) s e
+
+-- ---- the holder is found by its name
+
+all_at : {X : Type 0} (P : X → Type 0) (xs : List X) (k : ℕ) (x : X) → AllByRecursion P xs → slice_get xs k ≡ Some x → P x
+all_at P [] k x all e = absurd cc
+all_at P (y ∷ ys) zero x all e = let same : y ≡ x = cc in subst P same all.0
+all_at P (y ∷ ys) (suc k) x all e = all_at P ys k x all.1 e
+
+some_slot : (pending : Bool) (s : Slots) (context : Context) → in_slot pending s ≡ Some context → has_context s ≡ true
+some_slot true s context e = by s.active s.pending e
+  where
+    by : (a p : Option Context) → p ≡ Some context → (is_some a || is_some p) ≡ true
+    by None p e = rw e refl
+    by (Some x) p e = refl
+some_slot false s context e = rw e refl
+
+or_not : (a b : Bool) → IsTrue (a || not b) → b ≡ true → a ≡ true
+or_not true b h e = refl
+or_not false true h e = absurd cc
+or_not false false h e = absurd cc
+
+-- a device that has a context is at home here
+device_home : (m : Machine) (k : ℕ) (d : Device) (pending : Bool) (context : Context) → IsSound m → slice_get m.devices k ≡ Some d → in_slot pending d.slots ≡ Some context → d.is_home ≡ true
+device_home m k d pending context sound there e =
+    let is = all_at (IsSoundDevice m.senders) m.devices k d sound.devices there in
+    or_not d.is_home (has_context d.slots) is.home (some_slot pending d.slots context e)
+
+home_holder : (m : Machine) (dev : Eui) (k : ℕ) (d : Device) → place_of dev m ≡ Some k → slice_get m.devices k ≡ Some d → d.is_home ≡ true → holder_of dev m ≡ Some (holder.Device k)
+unfolding holder_of
+home_holder m dev k d place there home = rw (place, there, home) refl
+
+device_there : (o : Option Device) (slots : Slots) → option_map device_slots o ≡ Some slots → (d : Device) × (o ≡ Some d) × (d.slots ≡ slots)
+device_there None slots e = absurd cc
+device_there (Some d) slots e = (d, refl, cc)
+
+row_there : (o : Option DeviceRow) (dev : Eui) → option_map (λ (r : DeviceRow). r.dev_eui) o ≡ Some dev → (row : DeviceRow) × (o ≡ Some row) × (row.dev_eui ≡ dev)
+row_there None dev e = absurd cc
+row_there (Some row) dev e = (row, refl, cc)
+
+device_holder : (c : Config) (m : Machine) (k : ℕ) (dev : Eui) (slots : Slots) (pending : Bool) (context : Context) → AreNamed c m → IsSound m → name_of c (holder.Device k) ≡ Some dev
+    → slots_of (Some (holder.Device k)) m ≡ Some slots → in_slot pending slots ≡ Some context → holder_of dev m ≡ Some (holder.Device k)
+unfolding slots_of
+device_holder c m k dev slots pending context names sound name is e =
+    let row = row_there (slice_get c.devices k) dev name in
+    let d = device_there (slice_get m.devices k) slots is in
+    let place : place_of dev m ≡ Some k = subst (λ (x : Eui). place_of x m ≡ Some k) row.2 (named_place c m k row.0 names row.1) in
+    home_holder m dev k d.0 place d.1 (device_home m k d.0 pending context sound d.1 (ap (in_slot pending) d.2 ∙ e))
+
+visitor_there : (o : Option Visitor) (slots : Slots) → option_map visitor_slots o ≡ Some slots → (v : Visitor) × (o ≡ Some v)
+visitor_there None slots e = absurd cc
+visitor_there (Some v) slots e = (v, refl)
+
+record IsGuest (dev : Eui) (m : Machine) (v : Visitor) : Type 0 where
+  pub among : list_any (is_visitor dev) m.visitors ≡ true
+  pub name : (v.dev_eui.0 == dev.0) ≡ true
+  pub sound : IsSoundVisitor m.entries m.devices v
+
+find_there : (entries : ℕ) (devices : List Device) (dev : Eui) (vs : List Visitor) (v : Visitor) → AllByRecursion (IsSoundVisitor entries devices) vs → find (is_visitor dev) vs ≡ Some v
+    → (list_any (is_visitor dev) vs ≡ true) × ((v.dev_eui.0 == dev.0) ≡ true) × IsSoundVisitor entries devices v
+find_there entries devices dev [] v all e = absurd cc
+find_there entries devices dev (x ∷ xs) v all e = by (is_visitor dev x) refl e
+  where
+    by : (b : Bool) → is_visitor dev x ≡ b → cond b (Some x) (find (is_visitor dev) xs) ≡ Some v → ((b || list_any (is_visitor dev) xs) ≡ true) × ((v.dev_eui.0 == dev.0) ≡ true) × IsSoundVisitor entries devices v
+    by true is e = let same : x ≡ v = cc in (refl, subst (λ (y : Visitor). (y.dev_eui.0 == dev.0) ≡ true) same is, subst (IsSoundVisitor entries devices) same all.0)
+    by false is e = let rest = find_there entries devices dev xs v all.1 e in (rest.0, rest.1, rest.2)
+
+no_home : (m : Machine) (dev : Eui) (place : Option ℕ) → place_of dev m ≡ place → at_home dev m ≡ false → list_any (is_visitor dev) m.visitors ≡ true → home_or_visitor dev place m ≡ Some (holder.Visitor dev)
+no_home m dev None is away among = rw among refl
+no_home m dev (Some k) is away among =
+    let none : holds_of is_home (slice_get m.devices k) ≡ false = ap (λ (o : Option ℕ). holds_of is_home (at_place m.devices o)) (sym is) ∙ away in
+    rw (none, among) refl
+
+visitor_holder : (m : Machine) (dev : Eui) (slots : Slots) → IsSound m → slots_of (Some (holder.Visitor dev)) m ≡ Some slots → holder_of dev m ≡ Some (holder.Visitor dev)
+unfolding slots_of holder_of
+visitor_holder m dev slots sound is =
+    let v = visitor_there (visitor_of dev m) slots is in
+    let found = find_there m.entries m.devices dev m.visitors v.0 sound.visitors v.1 in
+    let same : v.0.dev_eui ≡ dev = ap (λ (n : ℕ). let e : Eui = record { 0 = n } in e) (eqb-true v.0.dev_eui.0 dev.0 found.1) in
+    let away : at_home dev m ≡ false = subst (λ (x : Eui). at_home x m ≡ false) same found.2.stranger in
+    no_home m dev (place_of dev m) refl away found.0
+
+holder_found : (c : Config) (m : Machine) (who : Holder) (dev : Eui) (slots : Slots) (pending : Bool) (context : Context) → AreNamed c m → IsSound m → name_of c who ≡ Some dev → slots_of (Some who) m ≡ Some slots
+    → in_slot pending slots ≡ Some context → holder_of dev m ≡ Some who
+holder_found c m (holder.Device k) dev slots pending context names sound name is e = device_holder c m k dev slots pending context names sound name is e
+holder_found c m (holder.Visitor own) dev slots pending context names sound name is e =
+    let same : own ≡ dev = cc in
+    subst (λ (x : Eui). holder_of x m ≡ Some (holder.Visitor own)) same (visitor_holder m own slots sound is)
+
+-- ---- the uplink
+
+above_last : (n : ℕ) (last : Option ℕ) → IsAbove last n → is_above n last ≡ true
+above_last n None h = refl
+above_last n (Some last) h = grind (arith, h)
+
+hears : (pending : Bool) (count : ℕ) (slots : Slots) (context : Context) → in_slot pending slots ≡ Some context → IsAbove context.last count → fits_slots pending count down.Nothing slots ≡ true
+unfolding fits_slots
+hears true count slots context e above = rw (e, above_last count context.last above) refl
+hears false count slots context e above = rw (e, above_last count context.last above) refl
+
+sized_of : (frame : List ℕ) → is_data frame ≡ true → nat_le (length frame) 255 ≡ true
+unfolding is_data data_fault
+sized_of frame is = by (nat_le 12 (length frame)) (nat_le (length frame) 255) refl refl
+  where
+    by : (a b : Bool) → nat_le 12 (length frame) ≡ a → nat_le (length frame) 255 ≡ b → b ≡ true
+    by a true ea eb = refl
+    by true false ea eb = let none : is_data frame ≡ false = rw (ea, eb) refl in absurd cc
+    by false false ea eb = let none : is_data frame ≡ false = rw (ea, eb) refl in absurd cc
+
+above_under : (s : Speaker) (frame : List ℕ) (rate : ℕ) (v : Count) (keys : _) → valid_under s frame rate keys ≡ Some v → IsAbove s.context.last v.count
+above_under s frame rate v None e = absurd cc
+above_under s frame rate v (Some keys) e = counts_above keys s.context frame rate v e
+
+count_above : (nwk : ℕ → List ℕ) (frame : List ℕ) (rate : ℕ) (s : Speaker) (v : Count) → count_of nwk frame rate s ≡ Some v → IsAbove s.context.last v.count
+unfolding count_of
+count_above nwk frame rate s v e = above_under s frame rate v (keys_of nwk s.holder s.context.origin) e
+
+pub uplink_fits : (c : Config) (nwk : ℕ → List ℕ) (m : Machine) (sender : Sender) (request : UplinkRequest) (s : Speaker) (v : Count) → AreNamed c m → IsSound m → IsUplink c nwk m request s v
+    → (let change = up_of s request v in IsTrue (fits_change sender change (wake (change_wakes change m) m)))
+unfolding fits_change
+uplink_fits c nwk m sender request s v names sound is =
+    let speaks = is_speaker c m (addr_of request.phy_payload) s is.is_speaker in
+    let who = holder_found c m s.holder s.dev_eui speaks.slots s.pending s.context names sound speaks.name speaks.is_slots speaks.is_context in
+    let hear = hears s.pending v.count speaks.slots s.context speaks.is_context (count_above nwk request.phy_payload request.data_rate s v is.is_count) in
+    rw (sized_of request.phy_payload is.is_up, who, speaks.is_slots, hear) refl

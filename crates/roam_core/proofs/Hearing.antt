@@ -90,11 +90,11 @@ named_place c m k row are there =
 free_there : (taken : ℕ → Bool) (more n k : ℕ) → free_from taken more n ≡ Some k → taken k ≡ false
 unfolding free_from
 free_there taken zero n k e = absurd cc
-free_there taken (suc more) n k e = by (taken n) refl e
+free_there taken (suc more) n k e = by (taken n) refl (free_there taken more (suc n) k) e
   where
-    by : (b : Bool) → taken n ≡ b → cond b (free_from taken more (suc n)) (Some n) ≡ Some k → taken k ≡ false
-    by true is e = free_there taken more (suc n) k e
-    by false is e = let same : n ≡ k = cc in ap taken (sym same) ∙ is
+    by : (b : Bool) → taken n ≡ b → (free_from taken more (suc n) ≡ Some k → taken k ≡ false) → cond b (free_from taken more (suc n)) (Some n) ≡ Some k → taken k ≡ false
+    by true is rest e = rest e
+    by false is rest e = let same : n ≡ k = cc in ap taken (sym same) ∙ is
 
 number_there : (net : ℕ) (m : Machine) (o : Option ℕ) (addr : ℕ) → free_from (is_number_taken net m) (room_of net) 0 ≡ o → option_map (λ (n : ℕ). base_of net + n) o ≡ Some addr → is_taken (record { 0 = addr }) m ≡ false
 number_there net m None addr is e = absurd cc
@@ -250,11 +250,12 @@ record IsGuest (dev : Eui) (m : Machine) (v : Visitor) : Type 0 where
 find_there : (entries : ℕ) (devices : List Device) (dev : Eui) (vs : List Visitor) (v : Visitor) → AllByRecursion (IsSoundVisitor entries devices) vs → find (is_visitor dev) vs ≡ Some v
     → (list_any (is_visitor dev) vs ≡ true) × ((v.dev_eui.0 == dev.0) ≡ true) × IsSoundVisitor entries devices v
 find_there entries devices dev [] v all e = absurd cc
-find_there entries devices dev (x ∷ xs) v all e = by (is_visitor dev x) refl e
+find_there entries devices dev (x ∷ xs) v all e = by (is_visitor dev x) refl (find_there entries devices dev xs v all.1) e
   where
-    by : (b : Bool) → is_visitor dev x ≡ b → cond b (Some x) (find (is_visitor dev) xs) ≡ Some v → ((b || list_any (is_visitor dev) xs) ≡ true) × ((v.dev_eui.0 == dev.0) ≡ true) × IsSoundVisitor entries devices v
-    by true is e = let same : x ≡ v = cc in (refl, subst (λ (y : Visitor). (y.dev_eui.0 == dev.0) ≡ true) same is, subst (IsSoundVisitor entries devices) same all.0)
-    by false is e = let rest = find_there entries devices dev xs v all.1 e in (rest.0, rest.1, rest.2)
+    by : (b : Bool) → is_visitor dev x ≡ b → (find (is_visitor dev) xs ≡ Some v → (list_any (is_visitor dev) xs ≡ true) × ((v.dev_eui.0 == dev.0) ≡ true) × IsSoundVisitor entries devices v)
+        → cond b (Some x) (find (is_visitor dev) xs) ≡ Some v → ((b || list_any (is_visitor dev) xs) ≡ true) × ((v.dev_eui.0 == dev.0) ≡ true) × IsSoundVisitor entries devices v
+    by true is then e = let same : x ≡ v = cc in (refl, subst (λ (y : Visitor). (y.dev_eui.0 == dev.0) ≡ true) same is, subst (IsSoundVisitor entries devices) same all.0)
+    by false is then e = let rest = then e in (rest.0, rest.1, rest.2)
 
 no_home : (m : Machine) (dev : Eui) (place : Option ℕ) → place_of dev m ≡ place → at_home dev m ≡ false → list_any (is_visitor dev) m.visitors ≡ true → home_or_visitor dev place m ≡ Some (holder.Visitor dev)
 no_home m dev None is away among = rw among refl

@@ -130,10 +130,10 @@ rejoin_fits : (m : Machine) (sender : Sender) (f : Found) (used : UsedSeed) (cou
     → is_taken own.dev_addr (wake (waking (Some used) f) m) ≡ false
     → (let change = change_of f.device (record { used = Some used; seed = record { nonce = f.kept.join_nonce + 1; join_eui = f.kept.join_eui; counter = counter } }) (Some own) in IsTrue (fits_change sender change (wake (change_wakes change m) m)))
 unfolding fits_change
-rejoin_fits m sender f used counter own there home above free =
+rejoin_fits m sender f used counter own there home higher free =
     let other = other-wake (waking (Some used) f) m f.device in
     let woken : slice_get (wake (waking (Some used) f) m).devices f.device ≡ Some (in_slots other.slots f.kept) = other.is ∙ ap (option_map (in_slots other.slots)) there in
-    rw (there, woken, same_used used counter other.slots f.kept, above, next_above f.kept.join_nonce, home, free) refl
+    rw (there, woken, same_used used counter other.slots f.kept, higher, next_above f.kept.join_nonce, free, home) refl
 
 module _ (c : Config) (nwk : ℕ → List ℕ) (m : Machine) (sender : Sender) (request : UplinkRequest) (f : Found) (own : OwnContext) where
   abbrev Fit : JoinUp → Type 0
@@ -297,7 +297,7 @@ sized_of frame is = by (nat_le 12 (length frame)) (nat_le (length frame) 255) re
     by : (a b : Bool) → nat_le 12 (length frame) ≡ a → nat_le (length frame) 255 ≡ b → b ≡ true
     by a true ea eb = refl
     by true false ea eb = let none : is_data frame ≡ false = rw (ea, eb) refl in absurd cc
-    by false false ea eb = let none : is_data frame ≡ false = rw (ea, eb) refl in absurd cc
+    by false false ea eb = let none : is_data frame ≡ false = rw ea refl in absurd cc
 
 above_under : (s : Speaker) (frame : List ℕ) (rate : ℕ) (v : Count) (keys : _) → valid_under s frame rate keys ≡ Some v → IsAbove s.context.last v.count
 above_under s frame rate v None e = absurd cc

@@ -45,7 +45,7 @@ place_bare dev rows = position-map (λ (r : DeviceRow). r.dev_eui.0 == dev.0) er
 
 -- ---- the device that is found
 
-abbrev found_bare : Found → Found
+abbrev pub found_bare : Found → Found
 found_bare f = record f { row = erased f.row }
 
 with_bare : (device : ℕ) (row : Option DeviceRow) (kept : Option Device) → found_with device (option_map erased row) kept ≡ option_map found_bare (found_with device row kept)
@@ -59,7 +59,7 @@ at_bare c m (Some device) =
     ap (λ (row : Option DeviceRow). found_with device row (slice_get m.devices device)) (slice_get-map erased c.devices device)
     ∙ with_bare device (slice_get c.devices device) (slice_get m.devices device)
 
-of_bare : (c : Config) (m : Machine) (dev : Eui) → found_of (bare c) m dev ≡ option_map found_bare (found_of c m dev)
+pub of_bare : (c : Config) (m : Machine) (dev : Eui) → found_of (bare c) m dev ≡ option_map found_bare (found_of c m dev)
 unfolding found_of
 of_bare c m dev = ap (found_at (bare c) m) (place_bare dev c.devices) ∙ at_bare c m (device_place dev c.devices)
 

@@ -28,6 +28,10 @@ home_rules_at nwk frame up found =
 abbrev pub sender_found : Config → Machine → JoinUp → Option Found
 sender_found c m up = found_of c m (dev_eui_of up)
 
--- the device of a step, of which what has ended by this moment is gone
+-- the device of a step
+abbrev pub stepping : HomeStep → Found
+stepping s = record { device = s.number; row = s.row.now; kept = s.kept.now }
+
+-- the same, where what has ended by this moment is gone
 abbrev pub home_found : ℕ → HomeStep → Found
-home_found at s = record { device = s.number; row = s.row.now; kept = lapsed at s.kept.now }
+home_found at s = record (stepping s) { kept = lapsed at s.kept.now }

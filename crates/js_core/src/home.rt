@@ -1,11 +1,12 @@
 //! Joins and rejoins of devices that are at home here.
 
 ghost use Rattle.std.specs.Prelude.{◌≡◌, ◌<◌, length, slice_get, IfErr, IfOk, None, Some};
+ghost use Rattle.std.specs.Prelude.{true, false};
 ghost use Rattle.entry_codec.specs.Machine.{lapse};
 ghost use Rattle.key_vault.specs.Table.{nwk_at};
 ghost use Rattle.wire_ids.specs.Rules.{first_rule};
 ghost use Rattle.js_core.specs.Frames.{dev_eui_of, frame_size};
-ghost use Rattle.js_core.specs.Home.{home_found, home_rules_at, sender_found};
+ghost use Rattle.js_core.specs.Home.{home_found, home_rules_at, sender_found, stepping};
 ghost use Rattle.js_core.specs.Replies.{accept_kind, home_accept, rejoin_kind};
 ghost use Rattle.js_core.specs.Steps.{is_spent, step_of};
 
@@ -31,8 +32,52 @@ pub struct HomeStep<'a> {
     pub step: JoinStep,
 }
 
+// The step in the state as it is.
+fn step_now<'a, E: BlockFn, D: BlockFn>(
+    tables: &'a Tables,
+    vault: &Vault<E, D>,
+    state: &'a State,
+    up: &JoinUp,
+    frame: &[u8],
+) -> Result<HomeStep<'a>, Refusal>
+    requires keys { length vault.now ≡ length tables.now.devices }
+    requires size { length frame.now ≡ frame_size up.now }
+    ensures refused { IfErr result (λ r. first_rule (home_rules_at (nwk_at vault.now) frame.now
+        (Some up.now) (sender_found tables.now state.now.now up.now)) ≡ Some r) }
+    ensures accepted { IfOk result (λ s. first_rule (home_rules_at (nwk_at vault.now) frame.now
+        (Some up.now) (sender_found tables.now state.now.now up.now)) ≡ None) }
+    ensures found { IfOk result (λ s. sender_found tables.now state.now.now up.now
+        ≡ Some (stepping s)) }
+    ensures number { IfOk result (λ s. s.number < length tables.now.devices) }
+    ensures row { IfOk result (λ s. slice_get tables.now.devices s.number ≡ Some s.row.now) }
+    ensures kept { IfOk result (λ s. slice_get state.now.now.devices s.number ≡ Some s.kept.now) }
+    ensures home { IfOk result (λ s. s.kept.now.is_home ≡ true) }
+    ensures step { IfOk result (λ s. s.step
+        ≡ step_of (nwk_at vault.now s.number) frame.now up.now s.kept.now) }
+    ensures unspent { IfOk result (λ s. is_spent s.kept.now ≡ false) }
+{
+    let Some(device) = find(tables, state, dev_eui(up)) else {
+        return Err(Refusal::Device);
+    };
+    if !device.kept.is_home {
+        return Err(Refusal::Device);
+    }
+    if device.kept.suspended {
+        return Err(Refusal::Suspended);
+    }
+    match join_step(vault, &device, up, frame) {
+        Ok(step) => Ok(HomeStep {
+            number: device.number,
+            row: device.row,
+            kept: device.kept,
+            step,
+        }),
+        Err(refusal) => Err(refusal),
+    }
+}
+
 /// The step of a device at home here in the state at this moment, or the first cause for which its
-/// join- or rejoin-request is refused.
+/// join- or rejoin-request is refused. Nothing that lapses is looked at.
 pub fn home_step<'a, E: BlockFn, D: BlockFn>(
     tables: &'a Tables,
     vault: &Vault<E, D>,
@@ -58,24 +103,7 @@ pub fn home_step<'a, E: BlockFn, D: BlockFn>(
     ensures unspent { IfOk result (λ s. is_spent (home_found now.0 s).kept ≡ false) }
 {
     let _ = now;
-    let Some(device) = find(tables, state, dev_eui(up)) else {
-        return Err(Refusal::Device);
-    };
-    if !device.kept.is_home {
-        return Err(Refusal::Device);
-    }
-    if device.kept.suspended {
-        return Err(Refusal::Suspended);
-    }
-    match join_step(vault, &device, up, frame) {
-        Ok(step) => Ok(HomeStep {
-            number: device.number,
-            row: device.row,
-            kept: device.kept,
-            step,
-        }),
-        Err(refusal) => Err(refusal),
-    }
+    step_now(tables, vault, state, up, frame)
 }
 
 fn accept_kind(up: &JoinUp) -> AcceptKind

@@ -69,19 +69,19 @@ module _ (c : Config) (nwk : ℕ → List ℕ) (m : Machine) (head : Head) (P : 
 
   count_case : (request : UplinkRequest) (s : Speaker) (v : Option Count) → is_data request.phy_payload ≡ true → speaker_of c m (addr_of request.phy_payload) ≡ Some s → is_duplicate request.phy_payload s ≡ false
       → count_of nwk request.phy_payload request.data_rate s ≡ v → P (counted_with head request s v)
-  count_case request s None data is new counts = holds.refusal cause.Mic
-  count_case request s (Some v) data is new counts = holds.uplink request s v (record { is_up = data; is_speaker = is; new = new; is_count = counts })
+  count_case request s None up is new counts = holds.refusal cause.Mic
+  count_case request s (Some v) up is new counts = holds.uplink request s v (record { is_up = up; is_speaker = is; new = new; is_count = counts })
 
   spoken_case : (request : UplinkRequest) (s : Speaker) (same : Bool) → is_data request.phy_payload ≡ true → speaker_of c m (addr_of request.phy_payload) ≡ Some s → is_duplicate request.phy_payload s ≡ same
       → (let d : JsDecision = decision.Reply (heard_answer head s s.context.last) in P (cond same d (counted_with head request s (count_of nwk request.phy_payload request.data_rate s))))
-  spoken_case request s true data is same = holds.duplicate s
-  spoken_case request s false data is new = count_case request s (count_of nwk request.phy_payload request.data_rate s) data is new refl
+  spoken_case request s true up is same = holds.duplicate s
+  spoken_case request s false up is new = count_case request s (count_of nwk request.phy_payload request.data_rate s) up is new refl
 
   -- what a request comes to by what is heard
-  abbrev as : UplinkRequest → Heard → JsDecision
-  as request heard = by_rules (refuses head) (uplink_rules_at c nwk m request heard) (success_at c nwk m head request heard)
+  abbrev comes : UplinkRequest → Heard → JsDecision
+  comes request heard = by_rules (refuses head) (uplink_rules_at c nwk m request heard) (success_at c nwk m head request heard)
 
-  join_case : (request : UplinkRequest) (up : JoinUp) (found : Option Found) → join_up_of request.phy_payload ≡ Some up → sender_found c m up ≡ found → P (as request (Join up found))
+  join_case : (request : UplinkRequest) (up : JoinUp) (found : Option Found) → join_up_of request.phy_payload ≡ Some up → sender_found c m up ≡ found → P (comes request (Join up found))
   join_case request up None is_up is_found = by_first (uplink_rules_at c nwk m request (Join up None)) _ (first_rule (uplink_rules_at c nwk m request (Join up None))) refl (λ none. holds.refusal cause.Device)
   join_case request up (Some f) is_up is_found = by_first (uplink_rules_at c nwk m request (Join up (Some f))) _ (first_rule (uplink_rules_at c nwk m request (Join up (Some f)))) refl (λ none.
       let each = none_holds (uplink_rules_at c nwk m request (Join up (Some f))) none in
@@ -94,19 +94,19 @@ module _ (c : Config) (nwk : ℕ → List ℕ) (m : Machine) (head : Head) (P : 
         is_own = is;
       }))
 
-  data_case : (request : UplinkRequest) (speaker : Option Speaker) → is_data request.phy_payload ≡ true → speaker_of c m (addr_of request.phy_payload) ≡ speaker → P (as request (Data speaker))
-  data_case request None data is = by_first (uplink_rules_at c nwk m request (Data None)) _ (first_rule (uplink_rules_at c nwk m request (Data None))) refl (λ none. holds.refusal cause.Address)
-  data_case request (Some s) data is = by_first (uplink_rules_at c nwk m request (Data (Some s))) _ (first_rule (uplink_rules_at c nwk m request (Data (Some s)))) refl
-      (λ none. spoken_case request s (is_duplicate request.phy_payload s) data is refl)
+  data_case : (request : UplinkRequest) (speaker : Option Speaker) → is_data request.phy_payload ≡ true → speaker_of c m (addr_of request.phy_payload) ≡ speaker → P (comes request (Data speaker))
+  data_case request None up is = by_first (uplink_rules_at c nwk m request (Data None)) _ (first_rule (uplink_rules_at c nwk m request (Data None))) refl (λ none. holds.refusal cause.Address)
+  data_case request (Some s) up is = by_first (uplink_rules_at c nwk m request (Data (Some s))) _ (first_rule (uplink_rules_at c nwk m request (Data (Some s)))) refl
+      (λ none. spoken_case request s (is_duplicate request.phy_payload s) up is refl)
 
-  neither_case : (request : UplinkRequest) → P (as request Neither)
+  neither_case : (request : UplinkRequest) → P (comes request Neither)
   neither_case request = by_first (uplink_rules_at c nwk m request Neither) _ (first_rule (uplink_rules_at c nwk m request Neither)) refl (λ none. holds.refusal cause.Frame)
 
-  rest_case : (request : UplinkRequest) (data : Bool) → is_data request.phy_payload ≡ data → (let d : Heard = Data (speaker_of c m (addr_of request.phy_payload)) in P (as request (cond data d Neither)))
+  rest_case : (request : UplinkRequest) (form : Bool) → is_data request.phy_payload ≡ form → (let d : Heard = Data (speaker_of c m (addr_of request.phy_payload)) in P (comes request (cond form d Neither)))
   rest_case request true is = data_case request (speaker_of c m (addr_of request.phy_payload)) is refl
   rest_case request false is = neither_case request
 
-  heard_case : (request : UplinkRequest) (up : Option JoinUp) → join_up_of request.phy_payload ≡ up → P (as request (heard_by c m request.phy_payload up))
+  heard_case : (request : UplinkRequest) (up : Option JoinUp) → join_up_of request.phy_payload ≡ up → P (comes request (heard_by c m request.phy_payload up))
   heard_case request (Some up) is = join_case request up (sender_found c m up) is refl
   heard_case request None is = rest_case request (is_data request.phy_payload) refl
 

@@ -12,13 +12,13 @@ pub record IsLeast (test : ℕ → Bool) (n k : ℕ) : Type 0 where
 pub least_is : (test : ℕ → Bool) (more n k : ℕ) → IsLeast test n k → k < n + more → least_from test more n ≡ Some k
 unfolding least_from
 least_is test zero n k is high = let low = is.low in absurd (omega (arith, low, high))
-least_is test (suc more) n k is high = by (test n) refl
+least_is test (suc more) n k is high = by (test n) refl (least_is test more (suc n) k)
   where
-    by : (b : Bool) → test n ≡ b → cond b (Some n) (least_from test more (suc n)) ≡ Some k
-    by true e =
+    by : (b : Bool) → test n ≡ b → (IsLeast test (suc n) k → k < suc n + more → least_from test more (suc n) ≡ Some k) → cond b (Some n) (least_from test more (suc n)) ≡ Some k
+    by true e rest =
         let same : n ≡ k = omega (arith, is.low, is.least n (omega arith) e) in
         ap (λ (i : ℕ). Some i) same
-    by false e =
+    by false e rest =
         let other : suc n ≤ k =
         elim (cases_lt n k) [
           | inl less ↦ omega (arith, less)
@@ -26,7 +26,7 @@ least_is test (suc more) n k is high = by (test n) refl
               let same : k ≡ n = omega (arith, is.low, most) in
               absurd (false≢true (sym e ∙ (ap test (sym same) ∙ is.passes)))
         ] in
-        least_is test more (suc n) k (record {
+        rest (record {
           passes = is.passes;
           low = other;
           least = λ j low is_j. is.least j (omega (arith, low)) is_j;
@@ -35,11 +35,11 @@ least_is test (suc more) n k is high = by (test n) refl
 pub none_is : (test : ℕ → Bool) (more n : ℕ) → ((j : ℕ) → n ≤ j → j < n + more → test j ≡ true → ⊥) → least_from test more n ≡ None
 unfolding least_from
 none_is test zero n none = refl
-none_is test (suc more) n none = by (test n) refl
+none_is test (suc more) n none = by (test n) refl (none_is test more (suc n))
   where
-    by : (b : Bool) → test n ≡ b → cond b (Some n) (least_from test more (suc n)) ≡ None
-    by true e = absurd (none n (omega arith) (omega arith) e)
-    by false e = none_is test more (suc n) (λ j low high is. none j (omega (arith, low)) (omega (arith, high)) is)
+    by : (b : Bool) → test n ≡ b → (((j : ℕ) → suc n ≤ j → j < suc n + more → test j ≡ true → ⊥) → least_from test more (suc n) ≡ None) → cond b (Some n) (least_from test more (suc n)) ≡ None
+    by true e rest = absurd (none n (omega arith) (omega arith) e)
+    by false e rest = rest (λ j low high is. none j (omega (arith, low)) (omega (arith, high)) is)
 
 -- what is found passes, and nothing before it does
 pub record IsFound (test : ℕ → Bool) (more n k : ℕ) : Type 0 where
@@ -49,17 +49,17 @@ pub record IsFound (test : ℕ → Bool) (more n k : ℕ) : Type 0 where
 pub found : (test : ℕ → Bool) (more n k : ℕ) → least_from test more n ≡ Some k → IsFound test more n k
 unfolding least_from
 found test zero n k e = absurd cc
-found test (suc more) n k e = by (test n) refl e
+found test (suc more) n k e = by (test n) refl (found test more (suc n) k) e
   where
-    by : (b : Bool) → test n ≡ b → cond b (Some n) (least_from test more (suc n)) ≡ Some k → IsFound test (suc more) n k
-    by true here e =
+    by : (b : Bool) → test n ≡ b → (least_from test more (suc n) ≡ Some k → IsFound test more (suc n) k) → cond b (Some n) (least_from test more (suc n)) ≡ Some k → IsFound test (suc more) n k
+    by true here then e =
         let same : n ≡ k = cc in
         record {
           is = record { passes = ap test (sym same) ∙ here; low = omega (arith, same); least = λ j low is_j. omega (arith, same, low) };
           high = omega (arith, same);
         }
-    by false here e =
-        let rest = found test more (suc n) k e in
+    by false here then e =
+        let rest = then e in
         record {
           is = record {
             passes = rest.is.passes;

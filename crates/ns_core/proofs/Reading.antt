@@ -55,7 +55,7 @@ data_in frame none = ap (λ (o : Option FrameFault). is_none o) none
 
 pub data_read : DataFramesRead
 data_read frame u f = record {
-  data = data_in frame (form_has_no_fault frame u f);
+  form = data_in frame (form_has_no_fault frame u f);
   addr = ap addr_of f.spelled ∙ addr_in u u.mic f.addr;
   ack = ap acks f.spelled ∙ ack_in u u.mic f.fopts;
   wire = ap wire_of f.spelled ∙ wire_in u u.mic f.wire;

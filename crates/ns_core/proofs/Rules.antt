@@ -53,10 +53,10 @@ pub heard_join : (c : Config) (m : Machine) (frame : List ℕ) (up : JoinUp) →
 unfolding heard_of
 heard_join c m frame up is = ap (heard_by c m frame) is
 
-heard_rest : (c : Config) (m : Machine) (frame : List ℕ) (data : Bool) → join_up_of frame ≡ None → is_data frame ≡ data
-    → heard_of c m frame ≡ (let d : Heard = cond data (Data (speaker_of c m (addr_of frame))) Neither in d)
+heard_rest : (c : Config) (m : Machine) (frame : List ℕ) (form : Bool) → join_up_of frame ≡ None → is_data frame ≡ form
+    → heard_of c m frame ≡ (let d : Heard = cond form (Data (speaker_of c m (addr_of frame))) Neither in d)
 unfolding heard_of
-heard_rest c m frame data none is = ap (heard_by c m frame) none ∙ ap (λ (b : Bool). let d : Heard = cond b (Data (speaker_of c m (addr_of frame))) Neither in d) is
+heard_rest c m frame form none is = ap (heard_by c m frame) none ∙ ap (λ (b : Bool). let d : Heard = cond b (Data (speaker_of c m (addr_of frame))) Neither in d) is
 
 pub heard_data : (c : Config) (m : Machine) (frame : List ℕ) → join_up_of frame ≡ None → is_data frame ≡ true → heard_of c m frame ≡ Data (speaker_of c m (addr_of frame))
 heard_data c m frame none is = heard_rest c m frame true none is
@@ -66,20 +66,20 @@ heard_neither c m frame none is = heard_rest c m frame false none is
 
 module _ (c : Config) (nwk : ℕ → List ℕ) (m : Machine) (head : Head) (request : UplinkRequest) where
   -- what a request comes to by what is heard
-  abbrev pub as : Heard → JsDecision
-  as heard = by_rules (refuses head) (uplink_rules_at c nwk m request heard) (success_at c nwk m head request heard)
+  abbrev pub comes : Heard → JsDecision
+  comes heard = by_rules (refuses head) (uplink_rules_at c nwk m request heard) (success_at c nwk m head request heard)
 
-  pub decided_as : (heard : Heard) → heard_of c m request.phy_payload ≡ heard → as heard ≡ uplink_decided c nwk m head request
+  pub decided_as : (heard : Heard) → heard_of c m request.phy_payload ≡ heard → comes heard ≡ uplink_decided c nwk m head request
   unfolding uplink_decided uplink_rules uplink_success
-  decided_as heard is = ap as (sym is)
+  decided_as heard is = ap comes (sym is)
 
-  size_by : (heard : Heard) → wrong_size request.phy_payload ≡ true → as heard ≡ refuses head cause.Size
+  size_by : (heard : Heard) → wrong_size request.phy_payload ≡ true → comes heard ≡ refuses head cause.Size
   size_by heard wrong = rw wrong refl
 
   pub size_said : wrong_size request.phy_payload ≡ true → refuses head cause.Size ≡ uplink_decided c nwk m head request
   size_said wrong = sym (size_by (heard_of c m request.phy_payload) wrong) ∙ decided_as (heard_of c m request.phy_payload) refl
 
-  neither_by : wrong_size request.phy_payload ≡ false → as Neither ≡ refuses head cause.Frame
+  neither_by : wrong_size request.phy_payload ≡ false → comes Neither ≡ refuses head cause.Frame
   neither_by sized = rw sized refl
 
   pub frame_said : wrong_size request.phy_payload ≡ false → join_up_of request.phy_payload ≡ None → is_data request.phy_payload ≡ false → refuses head cause.Frame ≡ uplink_decided c nwk m head request
@@ -94,7 +94,7 @@ module _ (c : Config) (nwk : ℕ → List ℕ) (m : Machine) (head : Head) (requ
     rules_are : first_rule (uplink_rules_at c nwk m request (Join up found)) ≡ first_rule (home_rules_at nwk request.phy_payload (Some up) found ++ last_rule)
     rules_are = rw sized refl
 
-    pub step_refused : (r : Refusal) → first_rule (home_rules_at nwk request.phy_payload (Some up) found) ≡ Some r → refuses head r ≡ as (Join up found)
+    pub step_refused : (r : Refusal) → first_rule (home_rules_at nwk request.phy_payload (Some up) found) ≡ Some r → refuses head r ≡ comes (Join up found)
     step_refused r e = sym (first_said (refuses head) (uplink_rules_at c nwk m request (Join up found)) _ r (rules_are ∙ more_some (home_rules_at nwk request.phy_payload (Some up) found) last_rule r e))
 
     stepped : first_rule (home_rules_at nwk request.phy_payload (Some up) found) ≡ None → (b : Bool) → no_address c nwk m request (Join up found) ≡ b
@@ -106,7 +106,7 @@ module _ (c : Config) (nwk : ℕ → List ℕ) (m : Machine) (head : Head) (requ
   address_in up f step own is e = ap (λ (s : JoinStep). is_none (own_context c m s.used f)) (sym is) ∙ ap (λ (o : Option OwnContext). is_none o) e
 
   pub none_left : (up : JoinUp) (f : Found) (step : JoinStep) (found : Option Found) → wrong_size request.phy_payload ≡ false → first_rule (home_rules_at nwk request.phy_payload (Some up) found) ≡ None → found ≡ Some f
-      → step ≡ step_of (nwk f.device) request.phy_payload up f.kept → own_context c m step.used f ≡ None → refuses head cause.AddressesSpent ≡ as (Join up found)
+      → step ≡ step_of (nwk f.device) request.phy_payload up f.kept → own_context c m step.used f ≡ None → refuses head cause.AddressesSpent ≡ comes (Join up found)
   none_left up f step found sized e there is none =
       let spent : no_address c nwk m request (Join up found) ≡ true = ap (λ (o : Option Found). no_address c nwk m request (Join up o)) there ∙ address_in up f step None is none in
       sym (first_said (refuses head) (uplink_rules_at c nwk m request (Join up found)) _ cause.AddressesSpent (stepped up found sized e true spent))
@@ -117,7 +117,7 @@ module _ (c : Config) (nwk : ℕ → List ℕ) (m : Machine) (head : Head) (requ
       ap (λ (s : JoinStep). activated_with nwk head up f s (own_context c m s.used f)) (sym is) ∙ ap (activated_with nwk head up f step) e
 
   pub activated_said : (up : JoinUp) (f : Found) (step : JoinStep) (own : OwnContext) (found : Option Found) → wrong_size request.phy_payload ≡ false → first_rule (home_rules_at nwk request.phy_payload (Some up) found) ≡ None → found ≡ Some f
-      → step ≡ step_of (nwk f.device) request.phy_payload up f.kept → own_context c m step.used f ≡ Some own → activated_with nwk head up f step (Some own) ≡ as (Join up found)
+      → step ≡ step_of (nwk f.device) request.phy_payload up f.kept → own_context c m step.used f ≡ Some own → activated_with nwk head up f step (Some own) ≡ comes (Join up found)
   activated_said up f step own found sized e there is some =
       let free : no_address c nwk m request (Join up found) ≡ false = ap (λ (o : Option Found). no_address c nwk m request (Join up o)) there ∙ address_in up f step (Some own) is some in
       sym (
@@ -128,19 +128,19 @@ module _ (c : Config) (nwk : ℕ → List ℕ) (m : Machine) (head : Head) (requ
 
   -- ---- data uplinks
 
-  pub no_speaker : (speaker : Option Speaker) → wrong_size request.phy_payload ≡ false → speaker ≡ None → refuses head cause.Address ≡ as (Data speaker)
+  pub no_speaker : (speaker : Option Speaker) → wrong_size request.phy_payload ≡ false → speaker ≡ None → refuses head cause.Address ≡ comes (Data speaker)
   no_speaker speaker sized none = rw (none, sized) refl
 
   pub duplicate_said : (speaker : Option Speaker) (s : Speaker) → wrong_size request.phy_payload ≡ false → speaker ≡ Some s → is_duplicate request.phy_payload s ≡ true
-      → (let d : JsDecision = decision.Reply (heard_answer head s s.context.last) in d ≡ as (Data speaker))
+      → (let d : JsDecision = decision.Reply (heard_answer head s s.context.last) in d ≡ comes (Data speaker))
   duplicate_said speaker s sized is same = rw (is, sized, same) refl
 
   pub wrong_said : (speaker : Option Speaker) (s : Speaker) → wrong_size request.phy_payload ≡ false → speaker ≡ Some s → is_duplicate request.phy_payload s ≡ false
-      → count_of nwk request.phy_payload request.data_rate s ≡ None → refuses head cause.Mic ≡ as (Data speaker)
+      → count_of nwk request.phy_payload request.data_rate s ≡ None → refuses head cause.Mic ≡ comes (Data speaker)
   wrong_said speaker s sized is new none = rw (is, sized, new, none) refl
 
   pub counted_said : (speaker : Option Speaker) (s : Speaker) (v : Count) → wrong_size request.phy_payload ≡ false → speaker ≡ Some s → is_duplicate request.phy_payload s ≡ false
-      → count_of nwk request.phy_payload request.data_rate s ≡ Some v → counted_with head request s (Some v) ≡ as (Data speaker)
+      → count_of nwk request.phy_payload request.data_rate s ≡ Some v → counted_with head request s (Some v) ≡ comes (Data speaker)
   counted_said speaker s v sized is new some = rw (is, sized, new, some) refl
 
 -- ---- their order

@@ -9,6 +9,7 @@ use Rattle.backend_json.specs.declared.head.Head.{Head}
 use Rattle.backend_json.specs.declared.request.Request.{Request}
 use Rattle.backend_json.specs.declared.request.Request.TheVariants.{AppSKeyReq, HomeNSReq, JoinReq, RejoinReq, UplinkReq, Unknown}
 use Rattle.backend_json.specs.declared.request.UplinkRequest.{UplinkRequest}
+use Rattle.entries.specs.declared.used_seed.UsedSeed.{UsedSeed}
 use Rattle.entry_codec.specs.LookUps.{live_context}
 use Rattle.entry_codec.specs.Machine.{Machine}
 use Rattle.entry_codec.specs.declared.parties.Holder.{Holder}
@@ -21,7 +22,7 @@ use Rattle.js_core.specs.Frames.{dev_eui_of, join_up_of}
 use Rattle.js_core.specs.Home.{sender_found}
 use Rattle.js_core.specs.Replies.{JsDecision, refuses}
 use Rattle.js_core.specs.Rules.{by_rules}
-use Rattle.js_core.specs.Steps.{seed_place}
+use Rattle.js_core.specs.Steps.{used_seed}
 use Rattle.js_core.proofs.Unread.{SameBare, bare, erased, found_bare, of_bare}
 use Rattle.ns_core.specs.Frames.{addr_of, is_data}
 use Rattle.ns_core.specs.Heard.{Heard, Join, Data, Neither, heard_by, heard_of}
@@ -69,24 +70,32 @@ of_heard c m frame = by_bare c m frame (join_up_of frame)
 
 -- ---- decisions
 
-module _ (c : Config) (nwk : ℕ → List ℕ) (m : Machine) (head : Head) (request : UplinkRequest) where
-  abbrev as : Config → Heard → JsDecision
-  as tables heard = by_rules (refuses head) (uplink_rules_at tables nwk m request heard) (success_at tables nwk m head request heard)
+own_bare : (c : Config) (m : Machine) (used : Option UsedSeed) (f : Found) → own_context (bare c) m used (found_bare f) ≡ own_context c m used f
+unfolding own_context own_address
+own_bare c m None f = refl
+own_bare c m (Some used) f = refl
 
-  as_bare : (heard : Heard) → as (bare c) (heard_bare heard) ≡ as c heard
-  unfolding accept_members own_context own_address seed_place
+module _ (c : Config) (nwk : ℕ → List ℕ) (m : Machine) (head : Head) (request : UplinkRequest) where
+  abbrev comes : Config → Heard → JsDecision
+  comes tables heard = by_rules (refuses head) (uplink_rules_at tables nwk m request heard) (success_at tables nwk m head request heard)
+
+  abbrev used_by : JoinUp → Found → Option UsedSeed
+  used_by u f = used_seed (nwk f.device) request.phy_payload u f.kept
+
+  as_bare : (heard : Heard) → comes (bare c) (heard_bare heard) ≡ comes c heard
+  unfolding accept_members
   as_bare (Join (up.Join join_eui dev_eui nonce mic) None) = refl
-  as_bare (Join (up.Join join_eui dev_eui nonce mic) (Some f)) = refl
+  as_bare (Join (up.Join join_eui dev_eui nonce mic) (Some f)) = rw (own_bare c m (used_by (up.Join join_eui dev_eui nonce mic) f) f) refl
   as_bare (Join (up.Rejoin02 kind net dev_eui count mic) None) = refl
-  as_bare (Join (up.Rejoin02 kind net dev_eui count mic) (Some f)) = refl
+  as_bare (Join (up.Rejoin02 kind net dev_eui count mic) (Some f)) = rw (own_bare c m (used_by (up.Rejoin02 kind net dev_eui count mic) f) f) refl
   as_bare (Join (up.Rejoin1 join_eui dev_eui count mic) None) = refl
-  as_bare (Join (up.Rejoin1 join_eui dev_eui count mic) (Some f)) = refl
+  as_bare (Join (up.Rejoin1 join_eui dev_eui count mic) (Some f)) = rw (own_bare c m (used_by (up.Rejoin1 join_eui dev_eui count mic) f) f) refl
   as_bare (Data speaker) = refl
   as_bare Neither = refl
 
   uplink_bare : uplink_decided (bare c) nwk m head request ≡ uplink_decided c nwk m head request
   unfolding uplink_decided uplink_rules uplink_success
-  uplink_bare = ap (as (bare c)) (of_heard c m request.phy_payload) ∙ as_bare (heard_of c m request.phy_payload)
+  uplink_bare = ap (comes (bare c)) (of_heard c m request.phy_payload) ∙ as_bare (heard_of c m request.phy_payload)
 
 decided_bare : (c : Config) (nwk : ℕ → List ℕ) (m : Machine) (head : Head) (request : Request) → ns_decided (bare c) nwk m head request ≡ ns_decided c nwk m head request
 unfolding ns_decided

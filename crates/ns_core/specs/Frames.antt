@@ -25,7 +25,7 @@ mic_of frame = drop (length frame - 4) frame
 
 -- these are the fields of a data uplink
 pub record HasFields (frame : List ℕ) (u : Uplink) : Type 0 where
-  pub data : is_data frame ≡ true
+  pub form : is_data frame ≡ true
   pub addr : addr_of frame ≡ u.addr
   pub ack : acks frame ≡ u.ack
   pub wire : wire_of frame ≡ u.wire

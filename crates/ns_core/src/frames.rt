@@ -8,7 +8,7 @@ use data_frames::{DataUp, read_data};
 
 /// The fields of a data uplink, and None where the frame is none.
 pub(crate) fn data_up(frame: &[u8]) -> Option<DataUp<'_>>
-    ensures data { is_some result ≡ is_data frame.now }
+    ensures form { is_some result ≡ is_data frame.now }
     ensures fields { IfSome result (λ up. HasFields frame.now (fields_of up)) }
     ensures whole { IfSome result (λ up. up.whole.now ≡ frame.now) }
     ensures size { IfSome result (λ up. length frame.now ≤ 255) }

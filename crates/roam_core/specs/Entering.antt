@@ -3,7 +3,7 @@ use Rattle.std.specs.Prelude.{◌≡◌, ℕ, nat_lt, List, Some, Bool, true, fa
 use Rattle.wire_ids.specs.declared.decision.Decision.TheVariants as decision
 use Rattle.wire_ids.specs.declared.keys.RootKeys.{RootKeys}
 use Rattle.wire_ids.specs.declared.party.Sender.{Sender}
-use Rattle.agreements.specs.Sound.{IsSound as AreSound}
+use Rattle.agreements.specs.LookUps.{AreFound as HasPlaces}
 use Rattle.agreements.specs.Walk.{Config}
 use Rattle.backend_json.specs.declared.answer.Answer.{Answer}
 use Rattle.backend_json.specs.declared.answer.Answer.TheVariants.{Headed, Headless}
@@ -32,10 +32,10 @@ pub record CanEnter (c : Config) (m : Machine) (now : ℕ) : Type 0 where
   pub begun : IsTrue (nat_lt 0 m.entries)
   pub time : IsTrue (is_time now m)
 
--- over the tables of a valid text, in each state that entries led to
+-- over tables in which no DevEUI has two rows, in each state such as entries lead to
 abbrev pub EntriesFit : Type 0
 EntriesFit = (c : Config) (keys : List RootKeys) (s : Desk) (body : List ℕ) (now : ℕ) (e : Entry)
-    → AreSound c → IsSound s.now → CanEnter c s.now now → (reaction c keys s body now).entry ≡ Some e → IsTrue (fits s.now e)
+    → HasPlaces c.devices → IsSound s.now → CanEnter c s.now now → (reaction c keys s body now).entry ≡ Some e → IsTrue (fits s.now e)
 
 -- the first state is one of its tables, and every entry leaves it so
 pub record StatesStay : Type 0 where

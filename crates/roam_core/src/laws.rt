@@ -20,8 +20,8 @@ pub fn parts_decide()
     ensures { PartsDecide }
 {}
 
-/// Over the tables of each valid text, the entry that a line makes fits the state in which it is
-/// made, which is one that entries led to.
+/// Over tables in which no DevEUI has two rows, the entry that a line makes fits the state in which
+/// it is made, which is one such as entries lead to.
 pub fn entries_fit()
     ensures { EntriesFit }
 {}

@@ -1,4 +1,4 @@
-"""AES-128, AES-CMAC and the join-request of LoRaWAN 1.1, for scripts that make input for lwdesk.
+"""AES-128, AES-CMAC, the join-request and the uplink of LoRaWAN 1.1, for scripts that make input for lwdesk.
 
 Plain Python with no package beside it, and independent of the program.
 """
@@ -105,3 +105,17 @@ def join_request(key, join_eui, dev_eui, dev_nonce):
     """The 23 bytes of a join-request, in hexadecimal (6.2.2)."""
     text = b"\0" + struct.pack("<QQH", join_eui, dev_eui, dev_nonce)
     return (text + key.cmac(text)[:4]).hex()
+
+
+def session_key(key, kind, join_nonce, join_eui, dev_nonce):
+    """FNwkSIntKey (kind 1) or SNwkSIntKey (3) of a join, under the NwkKey (6.2.5)."""
+    text = bytes([kind]) + struct.pack("<I", join_nonce)[:3] + struct.pack("<QH", join_eui, dev_nonce)
+    return Key(key.encrypt(text + bytes(2)))
+
+
+def uplink(f, s, addr, count, payload):
+    """An unconfirmed uplink on channel 0 at data rate 0, in hexadecimal (4.3, 4.4)."""
+    text = b"\x40" + struct.pack("<IBHB", addr, 0, count % 65536, 1) + payload
+    tail = b"\0" + struct.pack("<IIBB", addr, count, 0, len(text)) + text
+    block = b"\x49\0\0\0\0" + tail
+    return (text + s.cmac(block)[:2] + f.cmac(block)[:2]).hex()

@@ -13,7 +13,9 @@ use std::alloc::{AllocError, Global};
 const WRITE_FAILED: u8 = 5;
 
 const USAGE: &str = "lwdesk check --tables <PATH>\n       \
-    lwdesk answer --tables <PATH> --journal <PATH>";
+    lwdesk answer --tables <PATH> --journal <PATH>\n       \
+    lwdesk suspend --tables <PATH> --journal <PATH> <DEVEUI>\n       \
+    lwdesk resume --tables <PATH> --journal <PATH> <DEVEUI>";
 
 const EXAMPLE: &str = "Example:\n  \
     lwdesk answer --tables sample.toml --journal desk.journal < requests > answers";
@@ -42,6 +44,10 @@ fn help_text(alloc: Global) -> Result<String, AllocError> {
     let answer = Command::new(alloc, "answer").about(
         "Answers the requests of the standard input, one a line",
     );
+    let suspend = Command::new(alloc, "suspend").about(
+        "Suspends a device: it makes no new session until it is resumed",
+    );
+    let resume = Command::new(alloc, "resume").about("Resumes a device that was suspended");
     let tables = file_option(alloc, "tables", "The file of the tables");
     let journal = file_option(alloc, "journal", "The file of the journal");
     let help = Arg::new(alloc, "help")
@@ -56,6 +62,8 @@ fn help_text(alloc: Global) -> Result<String, AllocError> {
         .disable_help_subcommand(true)
         .subcommand(check)?
         .subcommand(answer)?
+        .subcommand(suspend)?
+        .subcommand(resume)?
         .arg(tables)?
         .arg(journal)?
         .arg(help)?;

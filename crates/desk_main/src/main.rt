@@ -14,7 +14,8 @@ ghost use Rattle.desk_main.specs.Help.{IsHelp};
 
 use adapters::{FileSource, ReadSource, WallClock, WriteSink};
 use desk_top::{files_of, run};
-use disk_model::{ClosedDisk, ClosedLink, Ran, Steps};
+use disk_model::{ClosedLink, Ran, Steps};
+use file_disk::FileDisk;
 use help::{is_help, print_help};
 use std::marker::Brand;
 use std::process::ExitCode;
@@ -41,6 +42,20 @@ fn tables_file(rt: &HostRuntime, words: &[String]) -> Option<fs::File> {
     fs::File::open(rt, path.as_str()).ok()
 }
 
+// The disk over the journal's file that the words name, which is made where it is missing.
+fn journal_disk(rt: &HostRuntime, words: &[String]) -> FileDisk {
+    match journal_path(words) {
+        Some(path) => FileDisk::open(rt, path),
+        None => FileDisk::new(None),
+    }
+}
+
+// The path of the journal that the words name.
+fn journal_path(words: &[String]) -> Option<&str> {
+    let place = files_of(words)?.journal?;
+    Some(words.get(place)?.as_str())
+}
+
 // Does what the words ask, and hands the status to the system.
 fn work<G: Ledger>(rt: &HostRuntime, words: &[String], blank: Blank) -> ExitCode
     requires name { blank.name ≡ G.name }
@@ -62,7 +77,7 @@ fn work<G: Ledger>(rt: &HostRuntime, words: &[String], blank: Blank) -> ExitCode
         &mut FileSource::new(tables_file(rt, words)),
         &mut ReadSource::new(rt.reader()),
         &mut out,
-        ClosedDisk::new(),
+        journal_disk(rt, words),
         &mut ClosedLink::new(),
         &mut WallClock::new(rt),
         &mut Steps::<G>::new(blank),

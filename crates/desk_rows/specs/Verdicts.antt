@@ -1,12 +1,27 @@
 -- What is printed of cases.
-use Rattle.std.specs.Prelude.{◌≡◌, ℕ, List, [], ◌∷◌, ◌++◌, codes, string_bytes, Bool, true, false, Option}
+use Rattle.std.specs.Prelude.{◌≡◌, ℕ, List, [], ◌∷◌, ◌++◌, codes, string_bytes, Bool, true, false, Option, Some, None, All, Vec, ⊤}
 use Rattle.std.specs.Io.KnownBytes.{Appends}
 use Rattle.desk_rows.specs.declared.case.Case.{Case}
+use Rattle.std.specs.declared.alloc.Global.{Global}
+use Rattle.desk_rows.specs.declared.case.Ended.{Ended}
 use Rattle.desk_rows.specs.declared.case.Outcome.{Outcome}
+use Rattle.desk_rows.specs.declared.case.Wanted.{Wanted}
+
+-- these bytes are there, or nothing is said of them
+abbrev pub Holds : List ℕ → Option (Vec ℕ Global) → Type 0
+Holds got None = ⊤
+Holds got (Some wanted) = got ≡ wanted.items
 
 -- the run ended as it is wanted
-abbrev pub Passes : Outcome → Outcome → Type 0
-Passes got wanted = (got.status ≡ wanted.status) × (got.output.items ≡ wanted.output.items)
+pub record Passes (got : Outcome) (wanted : Wanted) : Type 0 where
+  pub status : got.status ≡ wanted.status
+  pub output : got.output.items ≡ wanted.output.items
+  pub disk : Holds got.disk.items wanted.disk
+  pub journal : Holds got.journal.items wanted.journal
+
+-- each did
+abbrev pub PassAll : List Ended → Type 0
+PassAll ended = All (λ (one : Ended). Passes one.got one.wanted) ended
 
 -- the line of a case that passed
 abbrev pub ok_line : List ℕ → List ℕ

@@ -1,16 +1,19 @@
 //! The program `desk_rows`: worked rows and conversations, which stand in case files. Each case is
-//! a run of the desk over objects in memory. docs/TESTING.md gives the form of a case file.
+//! one or more runs of the desk over objects in memory. docs/TESTING.md gives the form of a case
+//! file.
 #![tactic(auto)]
 
 mod case;
 mod draft;
 mod folder;
 mod form;
+mod journal;
 mod refusal;
 mod running;
 mod suite;
 #[cfg(test)]
 mod tests;
+mod texts;
 mod verdict;
 
 ghost use Rattle.std.specs.Prelude.{◌≡◌};

@@ -20,6 +20,10 @@ pub(crate) enum Why {
     NoReplace,
     /// What is to be replaced doesn't stand in the tables text.
     NotInTables,
+    /// No text above has this name.
+    NoText,
+    /// What the disk holds before the run isn't said.
+    NoDisk,
     /// Want of memory.
     Memory,
 }
@@ -35,6 +39,8 @@ impl Display for Why {
             Why::NoFile => "the file can't be read",
             Why::NoReplace => "`by` wants a line `replace` before it",
             Why::NotInTables => "the tables text has no such text",
+            Why::NoText => "no text above has this name",
+            Why::NoDisk => "no line above says what the disk holds",
             Why::Memory => "want of memory",
         })
     }

@@ -1,14 +1,21 @@
 ghost use Rattle.std.specs.Prelude.{◌≡◌, ◌<◌, None, IfOk, length};
 
-use crate::case::{Given, Outcome, Reads};
+use crate::case::{DiskCalls, Given, Outcome, Reads};
+use crate::journal::journal_in;
 use desk_top::run;
 use disk_model::{
-    ClosedDisk, ClosedLink, Failed, FixedClock, MemorySink, MemorySource, Ran, Source, Steps,
+    ClosedLink, Failed, FixedClock, FuseDisk, MemoryDisk, MemorySink, MemorySource, Ran, Source,
+    Steps,
 };
 use std::alloc::{AllocError, Global};
 use std::marker::Brand;
 use std::sync::ledger::{Blank, Ledger};
 use wire_ids::Memory;
+
+// How many bytes a disk takes beside those that it holds before the run, and how many calls.
+const DISK_ROOM: usize = 1 << 20;
+
+const DISK_CALLS: usize = 1 << 14;
 
 /// Bytes in memory, and behind them maybe one byte without end. It tells nothing.
 #[derive(Drop)]
@@ -51,7 +58,33 @@ fn moments_of(alloc: Global, moments: Vec<u64>) -> Result<Vec<u64>, AllocError>
     Ok(moments)
 }
 
-fn counted<G: Ledger>(alloc: Global, given: Given, blank: Blank) -> Result<Outcome, Memory>
+// The numbers of the calls that fail, where so many pass before them.
+fn failing(alloc: Global, passes: u64, fails: u64) -> Result<Vec<u64>, AllocError> {
+    let mut calls = Vec::new(alloc);
+    for call in passes..passes.saturating_add(fails) {
+        calls.push(call)?;
+    }
+    Ok(calls)
+}
+
+// The disk of a run: it holds this, and its calls go so.
+fn disk_of(
+    alloc: Global,
+    content: &[u8],
+    calls: DiskCalls,
+) -> Result<FuseDisk<MemoryDisk>, Memory> {
+    let failing = failing(alloc, calls.passes, calls.fails)?;
+    let room = content.len().saturating_add(DISK_ROOM);
+    let disk = MemoryDisk::new(alloc, content, room, DISK_CALLS, failing)?;
+    Ok(FuseDisk::new(disk, calls.stops))
+}
+
+fn counted<G: Ledger>(
+    alloc: Global,
+    given: Given,
+    left: &[u8],
+    blank: Blank,
+) -> Result<Outcome, Memory>
     requires name { blank.name ≡ G.name }
     requires parts { blank.parts ≡ G.parts }
     requires some { 0 < blank.parts }
@@ -65,28 +98,36 @@ fn counted<G: Ledger>(alloc: Global, given: Given, blank: Blank) -> Result<Outco
         endless,
         moments,
         room,
+        disk,
+        disk_calls,
     } = given;
+    let disk = disk_of(alloc, disk.as_deref().unwrap_or(left), disk_calls)?;
     let mut feed = Feed {
         bytes: source(input, input_reads),
         endless,
     };
     let mut out = MemorySink::new(alloc, room)?;
-    let Ran { status, disks: _ } = run(
+    let Ran { status, disks } = run(
         alloc,
         &words,
         &mut source(tables, tables_reads),
         &mut feed,
         &mut out,
-        ClosedDisk::new(),
+        disk,
         &mut ClosedLink::new(),
         &mut FixedClock::new(moments_of(alloc, moments)?),
         &mut Steps::<G>::new(blank),
     );
-    let output = out.written().to_vec(alloc)?;
-    Ok(Outcome { status, output })
+    let disk = disks.into_disk();
+    Ok(Outcome {
+        status,
+        output: out.written().to_vec(alloc)?,
+        disk: disk.content().to_vec(alloc)?,
+        journal: journal_in(alloc, disk.content())?,
+    })
 }
 
-/// How the program ends where it is given this.
-pub(crate) fn outcome_of(alloc: Global, given: Given) -> Result<Outcome, Memory> {
-    counted::<Brand>(alloc, given, Blank::new(1))
+/// How the program ends where it is given this, and the run before left these bytes on the disk.
+pub(crate) fn outcome_of(alloc: Global, given: Given, left: &[u8]) -> Result<Outcome, Memory> {
+    counted::<Brand>(alloc, given, left, Blank::new(1))
 }

@@ -2,31 +2,41 @@ ghost use Rattle.std.specs.Prelude.{ℕ, List, IfOk, string_bytes};
 ghost use Rattle.std.specs.Io.KnownBytes.{Appends};
 ghost use Rattle.desk_rows.specs.Verdicts.{PrintsAll, Says};
 
-use crate::case::Case;
+use crate::case::{Case, Ended, Life};
 use crate::folder::{Folder, case_files};
 use crate::form::read_cases;
 use crate::refusal::Refused;
 use crate::running::outcome_of;
-use crate::verdict::{passes, verdict};
+use crate::verdict::{pass_all, verdict};
 use std::alloc::Global;
 use std::io::Write;
 use std::{fs, io};
+
+// The lives of a case, each on what the one before left on the disk, and how they ended.
+fn live(alloc: Global, lives: Vec<Life>) -> io::Result<Vec<Ended>> {
+    let mut ended = Vec::new(alloc);
+    let mut left = Vec::new(alloc);
+    for life in lives {
+        let Life { given, wanted } = life;
+        let Ok(got) = outcome_of(alloc, given, &left) else {
+            return Err(io::Error::from(io::ErrorKind::OutOfMemory));
+        };
+        left = got.disk.to_vec(alloc)?;
+        ended.push(Ended { got, wanted })?;
+    }
+    Ok(ended)
+}
 
 // Runs a case and prints what came of it. Whether it went as it is wanted.
 fn run_case<W: Write>(alloc: Global, case: Case, out: &mut W) -> io::Result<bool>
     ensures { IfOk result (λ passed. (lines : List ℕ) × Says passed (string_bytes case.name) lines
         × Appends (W.contents out.old) (W.contents out.new) lines) }
 {
-    let Case {
-        name,
-        given,
-        wanted,
-    } = case;
-    let Ok(got) = outcome_of(alloc, given) else {
-        return Err(io::Error::from(io::ErrorKind::OutOfMemory));
-    };
-    out.write_all(&verdict(alloc, &name, &got, &wanted)?)?;
-    Ok(passes(&got, &wanted))
+    let Case { name, lives } = case;
+    let lived = live(alloc, lives)?;
+    let ended = lived.as_slice();
+    out.write_all(&verdict(alloc, &name, ended)?)?;
+    Ok(pass_all(ended))
 }
 
 // Runs cases, one after another. Whether all went as they are wanted.

@@ -1,10 +1,14 @@
-pub mod Commands
+pub mod Counting
+pub mod Courses
 pub mod Ends
 pub mod Faults
+pub mod Journals
 pub mod LastLines
 pub mod Opening
 pub mod Output
 pub mod Promises
+pub mod Runs
+pub mod Tasks
 pub mod Text
 pub mod Turns
 pub mod Words

@@ -1,58 +1,86 @@
 ghost use Rattle.std.specs.Prelude.{◌≡◌, ◌≢◌, ◌↔◌, ◌+◌, ◌^◌, ◌<◌, ◌≤◌, [], List, ℕ, length};
-ghost use Rattle.std.specs.Prelude.{Err, IfOk, IfErr, OnOk, OnErr, IsErrOf};
+ghost use Rattle.std.specs.Prelude.{Err, None, IfOk, IfErr, OnOk, OnErr, IsErrOf};
 ghost use Rattle.std.specs.Bool.{OnFalse};
 ghost use Rattle.std.specs.Io.KnownBytes.{Consumes, IsAtEnd, Keeps};
 ghost use Rattle.wire_ids.specs.Causes.{Rose};
 ghost use Rattle.line_reader.specs.Ahead.{TakesCount, budget, coming};
 ghost use Rattle.line_reader.specs.Hearing.{StopsBehind, StopsInLine};
 ghost use Rattle.disk_model.specs.Moments.{Told};
-ghost use Rattle.roam_core.specs.Desk.{desk_of};
-ghost use Rattle.desk_top.specs.Commands.{Answered};
-ghost use Rattle.desk_top.specs.Output.{opened};
-ghost use Rattle.desk_top.specs.Turns.{IsOpen, Spends, Turns, WritesFront};
-ghost use Rattle.desk_top.specs.Faults.{IsOfLines};
+ghost use Rattle.entries.specs.declared.entry.Entry as an_entry;
+ghost use Rattle.desk_top.specs.Tasks.{LinesAnswered, Unwritten};
+ghost use Rattle.desk_top.specs.Turns.{Spends, TurnStops, Turns, WritesFront};
+ghost use Rattle.desk_top.specs.Faults.{IsOfLines, StopsLines};
 ghost use Rattle.desk_top.specs.declared.fault.Fault.TheVariants as fault;
 
-use crate::event::{answer, open_state};
-use crate::fault::Fault;
+use crate::fault::{Fault, Stop};
 use crate::last_line::write_line;
-use agreements::Tables;
+use book::{Answered, Book};
 use disk_model::{Clock, Sink, Source};
-use entry_codec::State;
-use key_vault::{BlockFn, Vault};
+use keepers::Keeper;
+use key_vault::BlockFn;
 use line_reader::{Ahead, Heard, next_line};
 use std::alloc::Global;
-use wire_ids::LongText;
+use wire_ids::Moment;
 
 // Hears a line, reads the clock and answers it, where there is one.
-fn turn<E: BlockFn, D: BlockFn, T: Source, O: Sink, K: Clock>(
+fn turn<P: Keeper, E: BlockFn, D: BlockFn, T: Source, O: Sink, K: Clock>(
     alloc: Global,
-    tables: &Tables,
-    vault: &Vault<E, D>,
     ahead: &mut Ahead,
-    state: &mut State,
+    book: &mut Book<P, E, D>,
     input: &mut T,
     out: &mut O,
     clock: &mut K,
 ) -> Result<bool, Fault>
     requires allowed { ahead.old.taken ≤ ahead.old.limit }
-    requires keys { length vault.now ≡ length tables.now.devices }
-    requires open { IsOpen tables.now (budget ahead.old) state.old.now }
+    requires whole { book.old.page.tried ≡ None }
 
-    ensures open { OnOk result (IsOpen tables.now (budget ahead.new) state.new.now) }
+    ensures whole { OnOk result (book.new.page.tried ≡ None) }
+    ensures config { book.new.page.config ≡ book.old.page.config }
+    ensures keys { book.new.fixed ≡ book.old.fixed }
     ensures limit { ahead.new.limit ≡ ahead.old.limit }
     ensures turns { IfOk result
-        (λ goes. Turns tables.now vault.now (coming ahead.old (T.left input.old))
-        (desk_of state.old)
-        (record { clock = K.tells clock.old; written = O.written out.old }) goes
-        (coming ahead.new (T.left input.new)) (desk_of state.new)
-        (record { clock = K.tells clock.new; written = O.written out.new })) }
+        (λ goes. Turns book.old.page.config book.old.fixed.keys
+        (coming ahead.old (T.left input.old)) book.old.page.desk
+        (record {
+          clock = K.tells clock.old;
+          written = O.written out.old;
+          records = book.old.page.records;
+        }) goes
+        (coming ahead.new (T.left input.new)) book.new.page.desk
+        (record {
+          clock = K.tells clock.new;
+          written = O.written out.new;
+          records = book.new.page.records;
+        })) }
     ensures end { IfOk result (λ goes. OnFalse goes (IsAtEnd (T.left input.new))) }
-    ensures front { OnErr result
-        (WritesFront tables.now vault.now (desk_of state.old)
+    ensures front { IfErr result (λ e. (StopsLines e → ⊥) →
+        WritesFront book.old.page.config book.old.fixed.keys book.old.page.desk
         (coming ahead.old (T.left input.old))
-        (record { clock = K.tells clock.old; written = O.written out.old })
-        (record { clock = K.tells clock.new; written = O.written out.new })) }
+        (record {
+          clock = K.tells clock.old;
+          written = O.written out.old;
+          records = book.old.page.records;
+        })
+        (record {
+          clock = K.tells clock.new;
+          written = O.written out.new;
+          records = book.new.page.records;
+        }) × (book.new.page.tried ≡ None)) }
+    ensures stops { (why : Stop) → IsErrOf result (Fault.Journal why) → (e : an_entry.Entry)
+        × TurnStops book.old.page.config book.old.fixed.keys
+        (coming ahead.old (T.left input.old)) book.old.page.desk
+        (record {
+          clock = K.tells clock.old;
+          written = O.written out.old;
+          records = book.old.page.records;
+        })
+        (coming ahead.new (T.left input.new))
+        (record {
+          clock = K.tells clock.new;
+          written = O.written out.new;
+          records = book.new.page.records;
+        }) e
+        × Unwritten P.fills e book.new.page.records book.new.page.tried why }
     ensures kind { IfErr result IsOfLines }
     ensures spends { IfOk result (λ goes. Spends goes (budget ahead.old) (budget ahead.new)) }
     ensures taken { TakesCount (T.left input.old) (T.left input.new)
@@ -64,62 +92,78 @@ fn turn<E: BlockFn, D: BlockFn, T: Source, O: Sink, K: Clock>(
     ensures read_in_line { IsErrOf result Fault.InputRead
         → StopsInLine (coming ahead.old (T.left input.old)) (T.left input.new)
         × Told (K.tells clock.old) (K.tells clock.new) []
-        × Keeps (O.written out.old) (O.written out.new) }
+        × Keeps (O.written out.old) (O.written out.new)
+        × (book.new.page.records ≡ book.old.page.records) }
     ensures write { IsErrOf result Fault.Write → Rose (O.faults out.old) (O.faults out.new) }
+    ensures disk { IsErrOf result (Fault.Journal Stop.Failed)
+        → Rose book.old.page.faults book.new.page.faults }
     ensures too_much { IsErrOf result Fault.TooMuch → ahead.new.taken ≡ ahead.new.limit + 1 }
     ensures stops_behind { IsErrOf result Fault.TooMuch
         → StopsBehind (coming ahead.old (T.left input.old)) (T.left input.new)
         × Told (K.tells clock.old) (K.tells clock.new) []
-        × Keeps (O.written out.old) (O.written out.new) }
+        × Keeps (O.written out.old) (O.written out.new)
+        × (book.new.page.records ≡ book.old.page.records) }
     ensures input_count { T.faults input.old ≤ T.faults input.new }
     ensures out_count { O.faults out.old ≤ O.faults out.new }
+    ensures disk_count { book.old.page.faults ≤ book.new.page.faults }
 {
-    match next_line(alloc, ahead, input)? {
-        Heard::Line(line) => {
-            let reading = clock.now();
-            let text = answer(alloc, tables, vault, state, line.as_slice(), reading)?;
-            write_line(out, text.into_vec())?;
+    let line = match next_line(alloc, ahead, input)? {
+        Heard::Line(line) => line,
+        Heard::End => return Ok(false),
+    };
+    let now = Moment(clock.now());
+    match book.answer(alloc, line.as_slice(), now) {
+        Answered::Answer { bytes, .. } => {
+            write_line(out, bytes.into_vec())?;
             Ok(true)
         }
-        Heard::End => Ok(false),
+        Answered::Fault => Err(Fault::Journal(Stop::Failed)),
+        Answered::Full => Err(Fault::Journal(Stop::Full)),
+        Answered::Memory => Err(Fault::Memory),
     }
 }
 
-// Opens the desk, where the clock read this, and answers the lines of the input to its end. Their
-// ends are looked for among its first `limit` bytes.
-pub(crate) fn answer_lines<E: BlockFn, D: BlockFn, T: Source, O: Sink, K: Clock>(
+// Answers the lines of the input to its end. Their ends are looked for among its first `limit`
+// bytes.
+pub(crate) fn answer_lines<P: Keeper, E: BlockFn, D: BlockFn, T: Source, O: Sink, K: Clock>(
     alloc: Global,
     limit: u64,
-    tables: &Tables,
-    vault: &Vault<E, D>,
-    text: LongText,
-    reading: u64,
+    book: &mut Book<P, E, D>,
     input: &mut T,
     out: &mut O,
     clock: &mut K,
 ) -> Result<(), Fault>
     requires limit { limit < 2 ^ 62 }
-    requires keys { length vault.now ≡ length tables.now.devices }
+    requires whole { book.old.page.tried ≡ None }
 
-    // What was written, by how it ended.
-    ensures answered { Answered limit tables.now vault.now (opened tables.now text reading)
-        (T.left input.old) (T.left input.new)
-        (record { clock = K.tells clock.old; written = O.written out.old })
-        (record { clock = K.tells clock.new; written = O.written out.new }) result }
+    // What was written and is in the journal, by how it ended.
+    ensures answered { LinesAnswered P.fills limit book.old.page.config book.old.fixed.keys
+        book.old.page.desk (T.left input.old) (T.left input.new)
+        (record {
+          clock = K.tells clock.old;
+          written = O.written out.old;
+          records = book.old.page.records;
+        })
+        (record {
+          clock = K.tells clock.new;
+          written = O.written out.new;
+          records = book.new.page.records;
+        })
+        book.new.page.tried result }
 
     ensures read { IsErrOf result Fault.InputRead → Rose (T.faults input.old) (T.faults input.new) }
     ensures write { IsErrOf result Fault.Write → Rose (O.faults out.old) (O.faults out.new) }
+    ensures disk { IsErrOf result (Fault.Journal Stop.Failed)
+        → Rose book.old.page.faults book.new.page.faults }
 
     // So many bytes were taken, and too many only where it is said.
     ensures too_much { (bytes : List ℕ) × Consumes (T.left input.old) (T.left input.new) bytes
         × ((result ≡ Err fault.TooMuch) ↔ (limit < length bytes)) × (length bytes ≤ limit + 1) }
     ensures input_count { T.faults input.old ≤ T.faults input.new }
     ensures out_count { O.faults out.old ≤ O.faults out.new }
+    ensures disk_count { book.old.page.faults ≤ book.new.page.faults }
 {
     let mut ahead = Ahead::with_limit(alloc, limit)?;
-    let mut state = open_state(alloc, tables, text, reading)?;
-    'lines: while turn(
-        alloc, tables, vault, &mut ahead, &mut state, input, out, clock,
-    )? {}
+    'lines: while turn(alloc, &mut ahead, book, input, out, clock)? {}
     Ok(())
 }

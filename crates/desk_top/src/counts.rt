@@ -1,6 +1,6 @@
 ghost use Rattle.std.specs.Prelude.{◌≡◌, ◌≤◌, IfOk, IfErr, IsErrOf, string_bytes};
 ghost use Rattle.wire_ids.specs.Causes.{Rose};
-ghost use Rattle.desk_top.specs.Commands.{Counted};
+ghost use Rattle.desk_top.specs.Counting.{Counted};
 ghost use Rattle.desk_top.specs.Faults.{IsOfPrinting};
 ghost use Rattle.desk_top.specs.LastLines.{counts_line};
 

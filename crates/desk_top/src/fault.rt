@@ -6,6 +6,21 @@ use line_reader::LineFault;
 use std::alloc::AllocError;
 use wire_ids::Memory;
 
+// Why a journal isn't opened, or not gone on with. A line is the last one that is printed.
+#[derive(Drop)]
+pub(crate) enum Stop {
+    // A call of the disk failed.
+    Failed,
+    // It has no room for the next entry.
+    Full,
+    // Its entries are those of another tables text.
+    OtherTables,
+    // The disk holds something else, as this line says.
+    NotAJournal(Vec<u8>),
+    // An entry is none, or doesn't fit, as this line says.
+    BadEntry(Vec<u8>),
+}
+
 // Why a command wasn't done to its end.
 #[derive(Drop)]
 pub(crate) enum Fault {
@@ -13,6 +28,8 @@ pub(crate) enum Fault {
     Usage,
     // The tables are refused, as this last line says.
     Refused(Vec<u8>),
+    // The device that is to be marked has no row, as this last line says.
+    NoDevice(Vec<u8>),
     // A read of the tables failed.
     TablesRead,
     // A read of the input failed.
@@ -21,6 +38,8 @@ pub(crate) enum Fault {
     Write,
     // More input was taken than is allowed.
     TooMuch,
+    // The journal isn't opened, or not gone on with.
+    Journal(Stop),
     // Want of memory.
     Memory,
 }
@@ -60,5 +79,13 @@ impl From<Failed> for Fault {
 
     fn from(_: Failed) -> Self {
         Fault::Write
+    }
+}
+
+impl From<Stop> for Fault {
+    ghost from_gives = { λ stop e. e ≡ fault.Journal stop };
+
+    fn from(stop: Stop) -> Self {
+        Fault::Journal(stop)
     }
 }

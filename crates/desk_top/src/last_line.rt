@@ -2,15 +2,17 @@ ghost use Rattle.std.specs.Prelude.{◌≡◌, ◌≤◌, [], ◌∷◌, ◌++�
 ghost use Rattle.std.specs.Io.KnownBytes.{Appends};
 ghost use Rattle.wire_ids.specs.Causes.{Rose};
 ghost use Rattle.disk_model.specs.Written.{AppendsFront};
-ghost use Rattle.desk_top.specs.Ends.{Closes, last_line, status_of};
+ghost use Rattle.desk_top.specs.Ends.{Closes, last_line, line_of_stop, status_of, status_of_stop};
 ghost use Rattle.desk_top.specs.Faults.{IsOfPrinting};
-ghost use Rattle.desk_top.specs.LastLines.{Prints, path_or_dash, refused_line};
-ghost use Rattle.desk_top.specs.Promises.{seen};
+ghost use Rattle.desk_top.specs.LastLines.{Prints, bad_entry_line, foreign_line, no_device_line};
+ghost use Rattle.desk_top.specs.LastLines.{path_or_dash, refused_line};
+ghost use Rattle.desk_top.specs.Runs.{seen};
 
-use crate::fault::Fault;
+use crate::fault::{Fault, Stop};
 use agreements::TablesFault;
 use disk_model::{Sink, write_whole};
 use std::alloc::{AllocError, Global};
+use wire_ids::Eui;
 
 // The byte that ends a line, LF.
 const LINE_END: u8 = 10;
@@ -57,6 +59,44 @@ pub(crate) fn refused_text(alloc: Global, fault: &TablesFault) -> Result<Vec<u8>
     with_end(line)
 }
 
+// What is printed where a device has no row.
+pub(crate) fn no_device_text(alloc: Global, eui: Eui) -> Result<Vec<u8>, AllocError>
+    ensures { IfOk result (λ line. line.items ≡ no_device_line eui) }
+{
+    let mut line = b"lwdesk: no device ".to_vec(alloc)?;
+    line.extend_from_slice(&eui.to_hex())?;
+    with_end(line)
+}
+
+// What is printed of a disk that differs from a journal at this place.
+pub(crate) fn foreign_text(alloc: Global, place: u64) -> Result<Vec<u8>, AllocError>
+    ensures { IfOk result (λ line. line.items ≡ foreign_line place) }
+{
+    let line = format!(in alloc; "lwdesk: not a journal at {place}\n")?;
+    Ok(line.into_bytes())
+}
+
+// What is printed of a journal whose entry of this number is none, or doesn't fit.
+pub(crate) fn bad_entry_text(alloc: Global, number: u64) -> Result<Vec<u8>, AllocError>
+    ensures { IfOk result (λ line. line.items ≡ bad_entry_line number) }
+{
+    let line = format!(in alloc; "lwdesk: bad entry {number}\n")?;
+    Ok(line.into_bytes())
+}
+
+// The status of a journal that isn't gone on with.
+fn status_of_stop(stop: &Stop) -> u8
+    ensures { result ≡ status_of_stop stop.now }
+{
+    match stop {
+        Stop::Failed => 6,
+        Stop::Full => 7,
+        Stop::OtherTables => 8,
+        Stop::NotAJournal(_) => 9,
+        Stop::BadEntry(_) => 12,
+    }
+}
+
 // The status of an end.
 pub(crate) fn status_of(end: &Result<(), Fault>) -> u8
     ensures { result ≡ status_of end.now }
@@ -68,8 +108,23 @@ pub(crate) fn status_of(end: &Result<(), Fault>) -> u8
         Err(Fault::TablesRead) => 4,
         Err(Fault::InputRead) => 4,
         Err(Fault::Write) => 5,
+        Err(Fault::Journal(stop)) => status_of_stop(stop),
         Err(Fault::Memory) => 10,
         Err(Fault::TooMuch) => 11,
+        Err(Fault::NoDevice(_)) => 13,
+    }
+}
+
+// The last line of a journal that isn't gone on with.
+fn line_of_stop(stop: &Stop) -> &[u8]
+    ensures { result.now ≡ line_of_stop stop.now }
+{
+    match stop {
+        Stop::Failed => b"lwdesk: disk\n",
+        Stop::Full => b"lwdesk: journal full\n",
+        Stop::OtherTables => b"lwdesk: other tables\n",
+        Stop::NotAJournal(line) => line,
+        Stop::BadEntry(line) => line,
     }
 }
 
@@ -84,11 +139,13 @@ pub(crate) fn close<O: Sink>(out: &mut O, end: &Result<(), Fault>)
         Ok(()) => {}
         Err(Fault::Usage) => print(out, b"lwdesk: usage\n"),
         Err(Fault::Refused(line)) => print(out, line),
+        Err(Fault::NoDevice(line)) => print(out, line),
         Err(Fault::TablesRead) => print(out, b"lwdesk: read\n"),
         Err(Fault::InputRead) => print(out, b"lwdesk: read\n"),
         Err(Fault::Write) => {}
-        Err(Fault::Memory) => {}
         Err(Fault::TooMuch) => print(out, b"lwdesk: too much input\n"),
+        Err(Fault::Journal(stop)) => print(out, line_of_stop(stop)),
+        Err(Fault::Memory) => {}
     }
 }
 

@@ -1,16 +1,18 @@
-//! The program without its outside: the words, the tables text, and the answers to the input's
-//! lines.
+//! The program without its outside: the words, the tables text, the journal, and the answers to the
+//! input's lines.
 #![tactic(auto)]
 
 mod answering;
 mod counts;
-mod event;
+mod desk;
+mod ended;
 mod fault;
+mod journal;
 mod last_line;
 mod opening;
 mod program;
 mod sample;
-mod vaulted;
+mod task;
 mod words;
 
 pub use program::run;

@@ -15,7 +15,7 @@ use agreements::{Tables, TablesFault, Unread, read_tables};
 use disk_model::Source;
 use roam_core::answers_agree;
 use std::alloc::Global;
-use wire_ids::LongText;
+use wire_ids::Text;
 
 /// One byte more than a tables text may have: the byte that shows it to be too long.
 const TEXT_ROOM: usize = 4194305;
@@ -89,19 +89,7 @@ fn refused(alloc: Global, refusal: &TablesFault) -> Fault
 #[derive(Drop)]
 pub(crate) struct TablesText {
     pub(crate) tables: Tables,
-    pub(crate) text: LongText,
-}
-
-// Tables, and their text, which is no longer than a tables text may be.
-fn with_text(tables: Tables, text: Vec<u8>) -> Result<TablesText, Fault>
-    ensures text { IfOk result (λ both. both.text ≡ text.items) }
-    ensures tables { IfOk result (λ both. both.tables ≡ tables) }
-    ensures memory { IfErr result (λ e. e ≡ fault.Memory) }
-{
-    match LongText::new(text) {
-        Some(text) => Ok(TablesText { tables, text }),
-        None => Err(Fault::Memory),
-    }
+    pub(crate) text: Text,
 }
 
 // The tables of a source's text.
@@ -118,7 +106,8 @@ pub(crate) fn open_tables<S: Source>(alloc: Global, source: &mut S) -> Result<Ta
     match read_tables(alloc, &text) {
         Ok(tables) => {
             answers_agree(&tables);
-            with_text(tables, text)
+            let text = Text::new(text);
+            Ok(TablesText { tables, text })
         }
         Err(Unread::Refused(refusal)) => Err(refused(alloc, &refusal)),
         Err(Unread::Memory) => Err(Fault::Memory),

@@ -12,7 +12,7 @@ use Rattle.backend_json.specs.declared.head.Head.{Head}
 use Rattle.backend_json.specs.declared.request.AppSKeyRequest.{AppSKeyRequest}
 use Rattle.backend_json.specs.declared.request.JoinRequest.{JoinRequest}
 use Rattle.backend_json.specs.declared.request.Request.{Request}
-use Rattle.backend_json.specs.declared.request.Request.TheVariants.{AppSKeyReq, HomeNSReq, JoinReq, RejoinReq, Unknown}
+use Rattle.backend_json.specs.declared.request.Request.TheVariants.{AppSKeyReq, HomeNSReq, JoinReq, RejoinReq, UplinkReq, Unknown}
 use Rattle.entry_codec.specs.Devices.{in_slots}
 use Rattle.entry_codec.specs.Machine.{Machine, wake}
 use Rattle.entry_codec.specs.declared.device.Device.{Device}
@@ -30,7 +30,7 @@ use Rattle.js_core.specs.Steps.{seed_place}
 
 -- ---- the same device with other contexts
 
-record Other (o woken : Option Device) : Type 0 where
+pub record Other (o woken : Option Device) : Type 0 where
   pub slots : Slots → Slots
   pub is : woken ≡ option_map (in_slots slots) o
 
@@ -45,7 +45,7 @@ other-changed zero f (x ∷ xs) (suc i) = record { slots = λ s. s; is = as_it_i
 other-changed (suc k) f (x ∷ xs) zero = rw (changed-cons x xs k (in_slots f)) (record { slots = λ s. s; is = refl })
 other-changed (suc k) f (x ∷ xs) (suc i) = rw (changed-cons x xs k (in_slots f)) (other-changed k f xs i)
 
-other-wake : (who : Option Holder) (m : Machine) (i : ℕ) → Other (slice_get m.devices i) (slice_get (wake who m).devices i)
+pub other-wake : (who : Option Holder) (m : Machine) (i : ℕ) → Other (slice_get m.devices i) (slice_get (wake who m).devices i)
 other-wake None m i = record { slots = λ s. s; is = as_it_is (slice_get m.devices i) }
 other-wake (Some (holder.Device k)) m i = other-changed k activated m.devices i
 other-wake (Some (holder.Visitor dev)) m i = record { slots = λ s. s; is = as_it_is (slice_get m.devices i) }
@@ -119,4 +119,5 @@ wake_unread c nwk app who m head (AppSKeyReq request) =
 wake_unread c nwk app who m head (HomeNSReq request) =
     let other = of_other c who m request.dev_eui in
     ap (home_ns_at c nwk app head other.slots) other.is ∙ home_ns_other c nwk app head other.slots _
+wake_unread c nwk app who m head (UplinkReq request) = refl
 wake_unread c nwk app who m head Unknown = refl

@@ -1,0 +1,82 @@
+-- What comes of opening a book.
+use Rattle.std.proofs.Common.{◌≡◌, ◌↔◌, ◌<◌, ◌≤◌, ◌+◌, ◌∙◌, ℕ, List, [], length, Option, Some, None, Result, Err, refl, sym, ap, subst, arith}
+use Rattle.std.specs.Io.KnownBytes.{Consumes}
+use Rattle.line_reader.proofs.Hearings.{Consumes_none}
+use Rattle.agreements.specs.Walk.{Config}
+use Rattle.entries.specs.Entries.{encode_of}
+use Rattle.entries.specs.declared.entry.Entry.{Entry}
+use Rattle.keepers.specs.Keeper.{Image}
+use Rattle.roam_core.specs.Desk.{Desk}
+use Rattle.book.specs.Opening.{Opens}
+use Rattle.book.specs.Pages.{IsTried, Page}
+use Rattle.book.specs.declared.faults.BookFault.{BookFault}
+use Rattle.book.specs.declared.faults.BookFault.TheVariants as book
+use Rattle.desk_top.specs.Journals.{OpensTo, TellsBook, TellsBookStop}
+use Rattle.desk_top.specs.Tasks.{Leaves}
+use Rattle.desk_top.specs.declared.fault.Fault.{Fault}
+use Rattle.desk_top.specs.declared.fault.Fault.TheVariants.{Usage, Refused, NoDevice, TablesRead, InputRead, Write, TooMuch, Journal, Memory}
+use Rattle.desk_top.specs.declared.fault.Stop.{Stop}
+use Rattle.desk_top.specs.declared.fault.Stop.TheVariants as stop
+
+-- a keeper rests, or is in doubt about the entry that was tried
+pub left_so : (rests : Type 0) (doubts : List ℕ → Type 0) (s : Desk) (spare : ℕ) (tried : Option Entry) → (tried ≡ None → rests) → ((e : Entry) → tried ≡ Some e → IsTried doubts s spare e) → Leaves rests doubts tried
+left_so rests doubts s spare None whole broken = whole refl
+left_so rests doubts s spare (Some e) whole broken = (broken e refl).doubt
+
+pub opens_to : {K : Type 0} (fills : ℕ → ℕ → Type 0) (c : Config) (text : List ℕ) (reading : ℕ) (rs : List (List ℕ)) (page : Page K) → Opens fills c text reading rs page → OpensTo c text reading rs page.desk page.records
+opens_to fills c text reading rs page o = record { start = o.desk; read = o.read; leads = o.leads; records = o.records }
+
+-- what no fault of an opening tells
+stop_tells : (fault : BookFault) (why : Stop) → TellsBookStop fault why → why ≡ stop.Failed → fault ≡ book.KeeperFault
+stop_tells fault stop.Failed told is = told
+stop_tells fault stop.Full told is = cc
+stop_tells fault stop.OtherTables told is = cc
+stop_tells fault (stop.NotAJournal line) told is = absurd told
+stop_tells fault (stop.BadEntry line) told is = cc
+
+pub tells_failed : (fault : BookFault) (e : Fault) → TellsBook fault e → e ≡ Journal stop.Failed → fault ≡ book.KeeperFault
+tells_failed fault Usage told is = absurd told
+tells_failed fault (Refused line) told is = absurd told
+tells_failed fault (NoDevice line) told is = absurd told
+tells_failed fault TablesRead told is = absurd told
+tells_failed fault InputRead told is = absurd told
+tells_failed fault Write told is = absurd told
+tells_failed fault TooMuch told is = absurd told
+tells_failed fault (Journal why) told is = stop_tells fault why told cc
+tells_failed fault Memory told is = cc
+
+-- none of these
+abbrev pub IsOfBook : Fault → Type 0
+IsOfBook Usage = ⊥
+IsOfBook (Refused line) = ⊥
+IsOfBook (NoDevice line) = ⊥
+IsOfBook TablesRead = ⊥
+IsOfBook InputRead = ⊥
+IsOfBook Write = ⊥
+IsOfBook TooMuch = ⊥
+IsOfBook (Journal why) = Unit {0}
+IsOfBook Memory = Unit {0}
+
+pub tells_kind : (fault : BookFault) (e : Fault) → TellsBook fault e → IsOfBook e
+tells_kind fault Usage told = absurd told
+tells_kind fault (Refused line) told = absurd told
+tells_kind fault (NoDevice line) told = absurd told
+tells_kind fault TablesRead told = absurd told
+tells_kind fault InputRead told = absurd told
+tells_kind fault Write told = absurd told
+tells_kind fault TooMuch told = absurd told
+tells_kind fault (Journal why) told = tt
+tells_kind fault Memory told = tt
+
+pub no_read : (e : Fault) → IsOfBook e → e ≡ InputRead → ⊥
+no_read e kind is = subst IsOfBook is kind
+
+pub no_write : (e : Fault) → IsOfBook e → e ≡ Write → ⊥
+no_write e kind is = subst IsOfBook is kind
+
+pub no_much : (e : Fault) → IsOfBook e → e ≡ TooMuch → ⊥
+no_much e kind is = subst IsOfBook is kind
+
+pub took_none : (left : Option (List ℕ)) (limit : ℕ) (r : Result (Unit {0}) Fault) (e : Fault) → r ≡ Err e → IsOfBook e
+    → (bytes : List ℕ) × Consumes left left bytes × ((r ≡ Err TooMuch) ↔ (limit < length bytes)) × (length bytes ≤ limit + 1)
+took_none left limit r e is kind = ([], Consumes_none left, (λ much. absurd (no_much e kind (cc (is, much))), λ l. absurd (omega (arith, l))), omega arith)

@@ -65,7 +65,7 @@ legal_then c keys (suc n) es more le some legal then =
     (subst (MayFollow c keys (desk_at c front)) (sym (drop_front (suc n) es more le))
     (may_then c keys (desk_at c front) back more legal (subst (λ (s : Desk). MayFollow c keys s more) (sym whole) then)))
 
-since_more : (c : Config) (keys : List RootKeys) (n : ℕ) (rs : List (List ℕ)) (s : Desk) (e : Entry) → IsLegalSince c keys n rs → IsHistory c rs s → 0 < s.now.entries → decode_of (encode_of e) ≡ Some e → IsTrue (fits s.now e) → IsStep c keys s e e.event
+pub since_more : (c : Config) (keys : List RootKeys) (n : ℕ) (rs : List (List ℕ)) (s : Desk) (e : Entry) → IsLegalSince c keys n rs → IsHistory c rs s → 0 < s.now.entries → decode_of (encode_of e) ≡ Some e → IsTrue (fits s.now e) → IsStep c keys s e e.event
     → IsLegalSince c keys n (rs ++ encode_of e ∷ [])
 since_more c keys n rs s e l h begun again fit step =
     let same : h.entries ≡ l.entries = same_Some h.entries l.entries (sym h.spelled ∙ l.spelled) in

@@ -1,3 +1,4 @@
+pub mod Calling
 pub mod Entering
 pub mod Firsts
 pub mod Growing

@@ -41,7 +41,7 @@ good_on c keys rs more es r spelled g =
       good = subst (λ (l : List Entry). IsGoodFor c keys l r) (joined (length rs) es) (good_later c keys (take (length rs) es) (drop (length rs) es) r (subst (λ (l : List Entry). IsGoodFor c keys l r) same g.good));
     }
 
-all_on : (c : Config) (keys : List RootKeys) (rs more : List (List ℕ)) (es : List Entry) (receipts : List Receipt) → entries_of (rs ++ more) ≡ Some es → AllByRecursion (IsGood c keys rs) receipts → AllByRecursion (IsGood c keys (rs ++ more)) receipts
+pub all_on : (c : Config) (keys : List RootKeys) (rs more : List (List ℕ)) (es : List Entry) (receipts : List Receipt) → entries_of (rs ++ more) ≡ Some es → AllByRecursion (IsGood c keys rs) receipts → AllByRecursion (IsGood c keys (rs ++ more)) receipts
 all_on c keys rs more es [] spelled all = tt
 all_on c keys rs more es (r ∷ receipts) spelled all = (good_on c keys rs more es r spelled all.0, all_on c keys rs more es receipts spelled all.1)
 

@@ -18,8 +18,8 @@ use Rattle.keepers.specs.Keeper.{Image}
 use Rattle.roam_core.specs.Desk.{Desk, moment_of}
 use Rattle.roam_core.specs.Legal.{IsLegal, MayFollow, desk_at, desk_from}
 use Rattle.book.specs.Histories.{IsLegalFrom, IsLegalSince, entries_of}
-use Rattle.book.specs.Opening.{FailsToBegin, FailsToOpen, IsReadAgain, opened_entry, opening, opening_at, tables_entry}
-use Rattle.book.specs.Pages.{Page, bytes_in}
+use Rattle.book.specs.Opening.{CountLeft, FailsToBegin, FailsToOpen, IsReadAgain, UnlessFailed, opened_entry, opening, opening_at, tables_entry}
+use Rattle.book.specs.Pages.{Page, Stops, bytes_in}
 use Rattle.book.specs.Replays.{IsRead}
 use Rattle.book.specs.declared.faults.BookFault.{BookFault}
 use Rattle.book.specs.declared.faults.BookFault.TheVariants as fault
@@ -109,5 +109,49 @@ pub fails_to_open : {K : Type 0} (full fills : ℕ → ℕ → Type 0) (c : Conf
 fails_to_open full fills c text now rs s fault.KeeperFault old new read gives h = tt
 fails_to_open full fills c text now rs s (fault.BadEntry n) old new read gives h = absurd h
 fails_to_open full fills c text now rs s fault.OtherTables old new read gives h = absurd h
-fails_to_open full fills c text now rs s fault.Full old new read gives h = record { desk = s; read = read; full = gives (length (opening text now s)) (bytes_in (opening text now s)) h }
+fails_to_open full fills c text now rs s fault.Full old new read gives h = record { desk = s; read = read; full = gives (length (opening text now s)) (bytes_in (opening text now s)) h.1 }
 fails_to_open full fills c text now rs s fault.Memory old new read gives h = tt
+
+-- ---- what a fault leaves
+
+pub unless : {P : Type 0} (f : BookFault) → P → UnlessFailed P f
+unless fault.KeeperFault p = tt
+unless (fault.BadEntry n) p = p
+unless fault.OtherTables p = p
+unless fault.Full p = p
+unless fault.Memory p = p
+
+pub unless_then : {P Q : Type 0} (f : BookFault) → (P → Q) → UnlessFailed P f → UnlessFailed Q f
+unless_then fault.KeeperFault goes p = tt
+unless_then (fault.BadEntry n) goes p = goes p
+unless_then fault.OtherTables goes p = goes p
+unless_then fault.Full goes p = goes p
+unless_then fault.Memory goes p = goes p
+
+pub count_same : (f : BookFault) (before now : ℕ) → now ≡ before → CountLeft before now f
+count_same fault.KeeperFault before now is = (omega (arith, is), omega (arith, is))
+count_same (fault.BadEntry n) before now is = is
+count_same fault.OtherTables before now is = is
+count_same fault.Full before now is = is
+count_same fault.Memory before now is = is
+
+-- it is whole after a fault that isn't the keeper's own
+pub whole_after : {K : Type 0} {R : Type 0} (full : ℕ → ℕ → Type 0) (es : List Entry) (f : BookFault) (old new : Page K) → old.tried ≡ None → FailsToBegin full es f old new → (new.tried ≡ None → R) → UnlessFailed R f
+whole_after full es fault.KeeperFault old new whole h rests = tt
+whole_after full es (fault.BadEntry n) old new whole h rests = absurd h
+whole_after full es fault.OtherTables old new whole h rests = absurd h
+whole_after full es fault.Full old new whole h rests = rests (h.0.tried ∙ whole)
+whole_after full es fault.Memory old new whole h rests = rests (h.tried ∙ whole)
+
+few_openings : (is_new : Bool) (text : List ℕ) (at : ℕ) → length (opening_at is_new text at) ≤ 2
+few_openings true text at = omega arith
+few_openings false text at = omega arith
+
+-- the keeper fails at one of at most two entries
+pub count_stopped : {K : Type 0} (text : List ℕ) (now : ℕ) (es : List Entry) (old new : Page K) → es ≡ opening text now old.desk → Stops es old new → CountLeft old.desk.now.entries new.desk.now.entries fault.KeeperFault
+count_stopped text now es old new is s =
+    let few = few_openings (old.desk.now.entries == 0) text (moment_of now old.desk.now) in
+    let all = ap (λ (l : List Entry). length l) (sym is ∙ s.cut) in
+    let parts = length-append s.done (s.doubted ∷ s.more) in
+    let size = ap (λ (d : Desk). d.now.entries) s.adds.desk ∙ entries_then old.desk s.done in
+    (omega (arith, size), omega (arith, size, few, all, parts))

@@ -1,7 +1,8 @@
 -- What opening a book does.
-use Rattle.std.specs.Prelude.{◌≡◌, ◌⊎◌, ℕ, ◌==◌, Result, Ok, Err, List, [], ◌∷◌, ◌++◌, length, map, Some, Bool, if◌then◌else◌}
+use Rattle.std.specs.Prelude.{◌≡◌, ◌⊎◌, ℕ, ◌+◌, ◌≤◌, ◌==◌, Result, Ok, Err, List, [], ◌∷◌, ◌++◌, length, map, option_map, Some, Bool, if◌then◌else◌}
 use Rattle.wire_ids.specs.Causes.{Rose}
 use Rattle.agreements.specs.Walk.{Config}
+use Rattle.disk_model.specs.Disk.{WhereTold}
 use Rattle.entries.specs.Entries.{decode_of, encode_of}
 use Rattle.entries.specs.declared.entry.Entry.{Entry}
 use Rattle.entries.specs.declared.entry.Event.TheVariants as event
@@ -9,7 +10,7 @@ use Rattle.roam_core.specs.Desk.{Desk, moment_of}
 use Rattle.roam_core.specs.Legal.{desk_from}
 use Rattle.disk_model.specs.declared.ran.Held.{Held}
 use Rattle.keepers.specs.Keeper.{Image}
-use Rattle.book.specs.Pages.{AddsSome, Page, bytes_in}
+use Rattle.book.specs.Pages.{AddsSome, Page, Same, bytes_in}
 use Rattle.book.specs.Sight.{Sight}
 use Rattle.book.specs.Replays.{Fails, IsRead}
 use Rattle.book.specs.declared.faults.BookFault.{BookFault}
@@ -37,8 +38,34 @@ abbrev pub FailsToBegin : {K : Type 0} → (ℕ → ℕ → Type 0) → List Ent
 FailsToBegin full es fault.KeeperFault old new = Rose old.faults new.faults
 FailsToBegin full es (fault.BadEntry n) old new = ⊥
 FailsToBegin full es fault.OtherTables old new = ⊥
-FailsToBegin full es fault.Full old new = full (length es) (bytes_in es)
-FailsToBegin full es fault.Memory old new = Unit {0}
+FailsToBegin full es fault.Full old new = Same old new × full (length es) (bytes_in es)
+FailsToBegin full es fault.Memory old new = Same old new
+
+-- of a fault that isn't the keeper's own
+abbrev pub UnlessFailed : Type 0 → BookFault → Type 0
+UnlessFailed claim fault.KeeperFault = Unit {0}
+UnlessFailed claim (fault.BadEntry n) = claim
+UnlessFailed claim fault.OtherTables = claim
+UnlessFailed claim fault.Full = claim
+UnlessFailed claim fault.Memory = claim
+
+-- how many there were and are: after a fault of the keeper the first entry of the opening may be new
+abbrev pub CountLeft : ℕ → ℕ → BookFault → Type 0
+CountLeft before now fault.KeeperFault = (before ≤ now) × (now ≤ before + 1)
+CountLeft before now (fault.BadEntry n) = now ≡ before
+CountLeft before now fault.OtherTables = now ≡ before
+CountLeft before now fault.Full = now ≡ before
+CountLeft before now fault.Memory = now ≡ before
+
+-- ---- told or not
+
+-- behind so many entries stand those of the opening
+pub record Begins {K : Type 0} (c : Config) (text : List ℕ) (now : ℕ) (before : Image) (count : ℕ) (new : Page K) : Type 0 where
+  pub desk : Desk
+  pub read : WhereTold before (λ rs. IsRead c text rs desk)
+  pub entries : desk.now.entries ≡ count
+  pub leads : new.desk ≡ desk_from desk (opening text now desk)
+  pub records : new.records ≡ option_map (λ (rs : List (List ℕ)). rs ++ map encode_of (opening text now desk)) before
 
 -- ---- on a keeper that tells its records; `fills` says that behind them there is no room for so many more
 

@@ -8,7 +8,7 @@ use Rattle.entries.specs.Entries.{decode_of, encode_of}
 use Rattle.entries.specs.declared.entry.Entry.{Entry}
 use Rattle.entry_codec.specs.Fits.{fits}
 use Rattle.entry_codec.specs.State.{Stored, needs}
-use Rattle.keepers.specs.Keeper.{Image}
+use Rattle.keepers.specs.Keeper.{Image, MayChange}
 use Rattle.roam_core.specs.Desk.{Desk, IsStateOf, desk_of}
 use Rattle.roam_core.specs.Legal.{desk_from}
 use Rattle.book.specs.Histories.{IsHistory}
@@ -121,6 +121,13 @@ Writes full written.NotKept es old new = Stops es old new × (full (length es) (
 Writes full written.NoRoom es old new = Same old new × full (length es) (bytes_in es)
 Writes full written.NoMemory es old new = Same old new
 
+-- where there was no room or no memory
+abbrev pub WhereNone : Type 0 → Written → Type 0
+WhereNone claim written.Done = Unit {0}
+WhereNone claim written.NotKept = Unit {0}
+WhereNone claim written.NoRoom = claim
+WhereNone claim written.NoMemory = claim
+
 -- an image holds these records and the first so many of the entries
 abbrev pub AddsSome : List (List ℕ) → List Entry → Image → Type 0
 AddsSome records es image = (n : ℕ) × (n ≤ length es) × (image ≡ Some (records ++ map encode_of (take n es)))
@@ -131,3 +138,9 @@ abbrev pub Mends : {K : Type 0} → Mended → Page K → Page K → Type 0
 Mends mended.Whole old new = Doubts None old new
 Mends (mended.Found place) old new = (place ≡ old.desk.now.entries) × ((e : Entry) × (old.tried ≡ Some e) × Adds (e ∷ []) None old new)
 Mends mended.Fault old new = ((e : Entry) × (old.tried ≡ Some e) × Doubts (Some e) old new) × Rose old.faults new.faults
+
+-- how often a keeper had found something changed, before and after
+abbrev pub MendChanges : Mended → ℕ → ℕ → Type 0
+MendChanges mended.Whole before now = now ≡ before
+MendChanges (mended.Found place) before now = now ≡ before
+MendChanges mended.Fault before now = MayChange before now

@@ -35,6 +35,7 @@ impl<K: Keeper, E: BlockFn, D: BlockFn> Book<K, E, D> {
         requires can { CanEnter self.old.page.config self.old.page.desk.now moment.0 }
         ensures answers { DecidesSo (K.is_full self.old.page.keeper) result body.now moment.0
             self.old self.new }
+        ensures changes { K.changes self.new.page.keeper ≡ K.changes self.old.page.keeper }
         ensures any_moment { WhereTold self.old.page.records
             (λ rs. LeavesOnly K.moment K.held_since self.old.page.keeper self.new.page.keeper
             (MadeOrNot rs (reaction_in self.old body.now moment.0).entry)) }
@@ -86,6 +87,7 @@ impl<K: Keeper, E: BlockFn, D: BlockFn> Book<K, E, D> {
         requires whole { self.old.page.tried ≡ None }
         ensures answers { AnswersSo (K.is_full self.old.page.keeper) result body.now now.0 self.old
             self.new }
+        ensures changes { K.changes self.new.page.keeper ≡ K.changes self.old.page.keeper }
         // It makes a good receipt.
         ensures good { GivesGood result body.now self.new }
         ensures agrees { Agrees self.old.page.config self.old.fixed.keys self.old.page.desk

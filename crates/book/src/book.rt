@@ -7,7 +7,7 @@ ghost use Rattle.entry_codec.specs.Fits.{fits};
 ghost use Rattle.keepers.specs.Keeper.{HoldsOnly, OneMoreOrNot};
 ghost use Rattle.roam_core.specs.Desk.{desk_of, moment_of};
 ghost use Rattle.roam_core.specs.Legal.{IsStep};
-ghost use Rattle.book.specs.Pages.{IsPage, Mends, Same};
+ghost use Rattle.book.specs.Pages.{IsPage, MendChanges, Mends, Same};
 ghost use Rattle.book.specs.Results.{WritesOne, moment_in};
 ghost use Rattle.book.specs.Sight.{IsBook};
 
@@ -84,7 +84,8 @@ impl<K: Keeper, E: BlockFn, D: BlockFn> Book<K, E, D> {
 
     /// The keeper of its entries.
     pub fn into_keeper(self) -> K
-        ensures { result ≡ self.page.keeper }
+        ensures keeper { result ≡ self.page.keeper }
+        ensures faults { K.faults result ≡ self.page.faults }
     {
         let Book { pages, .. } = self;
         pages.into_keeper()
@@ -102,6 +103,7 @@ impl<K: Keeper, E: BlockFn, D: BlockFn> Book<K, E, D> {
     pub fn sound(&self)
         ensures page { IsPage K.records K.counted K.rests K.doubts self.now.page }
         ensures book { IsBook self.now }
+        ensures faults { K.faults self.now.page.keeper ≡ self.now.page.faults }
         ensures held { self.now.page.tried ≡ None → WhereTold self.now.page.records
             (HoldsOnly (K.holds self.now.page.keeper)) }
     {
@@ -115,6 +117,8 @@ impl<K: Keeper, E: BlockFn, D: BlockFn> Book<K, E, D> {
         ensures mends { Mends result self.old.page self.new.page }
         ensures whole { self.old.page.tried ≡ None → Same self.old.page self.new.page }
         ensures fixed { self.new.fixed ≡ self.old.fixed }
+        ensures changes { MendChanges result (K.changes self.old.page.keeper)
+            (K.changes self.new.page.keeper) }
         // At each moment each image has the entries before, with the one in doubt or without it.
         ensures any_moment { (e : an_entry.Entry) → self.old.page.tried ≡ Some e
             → WhereTold self.old.page.records
@@ -137,6 +141,7 @@ impl<K: Keeper, E: BlockFn, D: BlockFn> Book<K, E, D> {
         requires step { IsStep self.old.page.config self.old.fixed.keys self.old.page.desk entry
             entry.event }
         ensures writes { WritesOne (K.is_full self.old.page.keeper) result entry self.old self.new }
+        ensures changes { K.changes self.new.page.keeper ≡ K.changes self.old.page.keeper }
         ensures any_moment { WhereTold self.old.page.records
             (λ rs. LeavesOnly K.moment K.held_since self.old.page.keeper self.new.page.keeper
             (OneMoreOrNot rs (encode_of entry))) }

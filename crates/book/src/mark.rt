@@ -56,6 +56,7 @@ impl<K: Keeper, E: BlockFn, D: BlockFn> Book<K, E, D> {
         requires device { device < length self.old.page.config.devices }
         ensures marks { MarksSo (K.is_full self.old.page.keeper) result suspended device now.0
             self.old self.new }
+        ensures changes { K.changes self.new.page.keeper ≡ K.changes self.old.page.keeper }
         ensures any_moment { WhereTold self.old.page.records
             (λ rs. LeavesOnly K.moment K.held_since self.old.page.keeper self.new.page.keeper
             (OneMoreOrNot rs (encode_of (mark_of suspended device (moment_in self.old now.0))))) }
@@ -83,6 +84,7 @@ impl<K: Keeper, E: BlockFn, D: BlockFn> Book<K, E, D> {
         requires device { device < length self.old.page.config.devices }
         ensures marks { MarksSo (K.is_full self.old.page.keeper) result true device now.0 self.old
             self.new }
+        ensures changes { K.changes self.new.page.keeper ≡ K.changes self.old.page.keeper }
         // At each moment each image has the entries before, with the mark or without it.
         ensures any_moment { WhereTold self.old.page.records
             (λ rs. LeavesOnly K.moment K.held_since self.old.page.keeper self.new.page.keeper
@@ -102,6 +104,7 @@ impl<K: Keeper, E: BlockFn, D: BlockFn> Book<K, E, D> {
         requires device { device < length self.old.page.config.devices }
         ensures marks { MarksSo (K.is_full self.old.page.keeper) result false device now.0 self.old
             self.new }
+        ensures changes { K.changes self.new.page.keeper ≡ K.changes self.old.page.keeper }
         // At each moment each image has the entries before, with the mark or without it.
         ensures any_moment { WhereTold self.old.page.records
             (λ rs. LeavesOnly K.moment K.held_since self.old.page.keeper self.new.page.keeper

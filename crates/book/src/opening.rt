@@ -8,8 +8,9 @@ ghost use Rattle.std.specs.List.{AllByRecursion};
 ghost use Rattle.entry_codec.specs.Replay.{AllFit};
 ghost use Rattle.keepers.specs.Keeper.{HoldsOnly, Quiet};
 ghost use Rattle.roam_core.specs.Desk.{moment_of};
-ghost use Rattle.book.specs.Opening.{FailsToBegin, FailsToOpen, IsReadAgain, MayOpen};
-ghost use Rattle.book.specs.Opening.{Opens, keeper_after, opening, opening_at};
+ghost use Rattle.book.specs.Opening.{Begins, CountLeft, FailsToBegin, FailsToOpen, IsReadAgain};
+ghost use Rattle.book.specs.Opening.{MayOpen, Opens, UnlessFailed, keeper_after, opening};
+ghost use Rattle.book.specs.Opening.{opening_at};
 ghost use Rattle.book.specs.Pages.{Adds, AddsSome, bytes_in, entry_in};
 ghost use Rattle.book.specs.Replays.{Fails, IsRead};
 
@@ -73,6 +74,7 @@ impl<K: Keeper> Pages<K> {
         ensures later { IfOk result (λ p. K.faults keeper ≤ p.faults) }
         ensures records { IfOk result (λ p. p.records ≡ K.records keeper) }
         ensures rests { IfOk result (λ p. K.rests p.keeper) }
+        ensures changes { IfOk result (λ p. K.changes p.keeper ≡ K.changes keeper) }
         ensures fails { IfErr result (λ h. WhereTold (K.records keeper)
             (λ rs. Fails tables text.now rs h.fault)) }
         ensures quiet_err { IfErr result (λ h. Quiet K.records K.holds K.moment K.held_since keeper
@@ -80,6 +82,9 @@ impl<K: Keeper> Pages<K> {
         ensures cause { IfErr result (λ h. h.fault ≡ BookFault.KeeperFault
             → Rose (K.faults keeper) (K.faults h.object)) }
         ensures later_err { IfErr result (λ h. K.faults keeper ≤ K.faults h.object) }
+        ensures rests_err { IfErr result (λ h. K.rests h.object) }
+        ensures counted_err { IfErr result (λ h. K.counted h.object ≡ K.counted keeper) }
+        ensures changes_err { IfErr result (λ h. K.changes h.object ≡ K.changes keeper) }
         ensures not_full { IfErr result (λ h. h.fault ≡ BookFault.Full → ⊥) }
         ensures steps { IfOk result (λ _. steps.new ≡ steps.old + K.counted keeper) }
         ensures few_steps { steps.new ≤ steps.old + K.counted keeper }
@@ -113,7 +118,12 @@ impl<K: Keeper> Pages<K> {
         ensures fit { OnOk result (AllFit self.old.desk.now (opening text now.0 self.old.desk)) }
         ensures fails { IfErr result (λ f. FailsToBegin (K.is_full self.old.keeper)
             (opening text now.0 self.old.desk) f self.old self.new) }
+        ensures left { IfErr result (UnlessFailed (Quiet K.records K.holds K.moment K.held_since
+            self.old.keeper self.new.keeper)) }
+        ensures count_left { IfErr result (CountLeft self.old.desk.now.entries
+            self.new.desk.now.entries) }
         ensures later { self.old.faults ≤ self.new.faults }
+        ensures changes { K.changes self.new.keeper ≡ K.changes self.old.keeper }
         ensures any_moment { WhereTold self.old.records
             (λ rs. LeavesOnly K.moment K.held_since self.old.keeper self.new.keeper
             (AddsSome rs (opening text now.0 self.old.desk))) }
@@ -157,6 +167,8 @@ impl<K: Keeper, E: BlockFn, D: BlockFn> Book<K, E, D> {
         requires keys { length vault ≡ length tables.devices }
         ensures opens { IfOk result (λ b. WhereTold (K.records keeper)
             (λ rs. Opens (K.fills rs) tables text now.0 rs b.page)) }
+        ensures begins { IfOk result (λ b. Begins tables text now.0 (K.records keeper)
+            (K.counted keeper) b.page) }
         ensures config { IfOk result (λ b. b.page.config ≡ tables) }
         ensures keys { IfOk result (λ b. b.fixed.keys ≡ vault) }
         ensures opened { IfOk result (λ b. b.fixed.opened ≡ K.counted keeper) }
@@ -166,7 +178,14 @@ impl<K: Keeper, E: BlockFn, D: BlockFn> Book<K, E, D> {
             (λ rs. FailsToOpen (K.fills rs) tables text now.0 rs h.fault)) }
         ensures cause { IfErr result (λ h. h.fault ≡ BookFault.KeeperFault
             → Rose (K.faults keeper) (K.faults h.object)) }
+        // Where no call of the keeper failed nothing was written, and it rests.
+        ensures left { IfErr result (λ h. UnlessFailed (Quiet K.records K.holds K.moment
+            K.held_since keeper h.object) h.fault) }
+        ensures rests_left { IfErr result (λ h. UnlessFailed (K.rests h.object) h.fault) }
+        ensures count_left { IfErr result (λ h. CountLeft (K.counted keeper) (K.counted h.object)
+            h.fault) }
         ensures later { K.faults keeper ≤ K.faults (keeper_after result) }
+        ensures changes { K.changes (keeper_after result) ≡ K.changes keeper }
         ensures steps { IfOk result (λ _. steps.new ≡ steps.old + K.counted keeper) }
         ensures few_steps { steps.new ≤ steps.old + K.counted keeper }
         // At each moment each image has the records before, with none, the first or both of the
@@ -182,6 +201,7 @@ impl<K: Keeper, E: BlockFn, D: BlockFn> Book<K, E, D> {
         match pages.begin(alloc, text, now) {
             Ok(()) => {}
             Err(fault) => {
+                pages.sound();
                 return Err(Held {
                     object: pages.into_keeper(),
                     fault,

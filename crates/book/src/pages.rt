@@ -8,9 +8,9 @@ ghost use Rattle.entry_codec.specs.Replay.{AllFit};
 ghost use Rattle.entry_codec.specs.State.{needs};
 ghost use Rattle.entries.specs.declared.entry.Entry as an_entry;
 ghost use Rattle.roam_core.specs.Desk.{desk_of, moment_of};
-ghost use Rattle.keepers.specs.Keeper.{Image, OneMoreOrNot};
-ghost use Rattle.book.specs.Pages.{Adds, AddsSome, Doubts, HasRoom, IsPage, Mends, OneNeeds};
-ghost use Rattle.book.specs.Pages.{Same, Stops, Writes};
+ghost use Rattle.keepers.specs.Keeper.{Image, OneMoreOrNot, Quiet};
+ghost use Rattle.book.specs.Pages.{Adds, AddsSome, Doubts, HasRoom, IsPage, MendChanges, Mends};
+ghost use Rattle.book.specs.Pages.{OneNeeds, Same, Stops, WhereNone, Writes};
 ghost use Rattle.book.specs.Pages.{bytes_in, entry_in};
 
 use crate::draft::Draft;
@@ -104,6 +104,7 @@ impl<K: Keeper> Pages<K> {
             + length (encode_of draft.entry) ≡ K.spare_bytes self.old.keeper) }
         ensures doubted { OnErr result (Doubts (Some draft.entry) self.old self.new) }
         ensures rose { OnErr result (Rose self.old.faults self.new.faults) }
+        ensures changes { K.changes self.new.keeper ≡ K.changes self.old.keeper }
         ensures any_moment { WhereTold self.old.records
             (λ rs. LeavesOnly K.moment K.held_since self.old.keeper self.new.keeper
             (OneMoreOrNot rs (encode_of draft.entry))) }
@@ -133,6 +134,7 @@ impl<K: Keeper> Pages<K> {
             ≤ K.spare_bytes self.old.keeper }
         ensures added { OnOk result (Adds (map entry_in drafts.items) None self.old self.new) }
         ensures stops { OnErr result (Stops (map entry_in drafts.items) self.old self.new) }
+        ensures changes { K.changes self.new.keeper ≡ K.changes self.old.keeper }
         ensures any_moment { WhereTold self.old.records
             (λ rs. LeavesOnly K.moment K.held_since self.old.keeper self.new.keeper
             (AddsSome rs (map entry_in drafts.items))) }
@@ -157,6 +159,10 @@ impl<K: Keeper> Pages<K> {
             → K.is_full self.old.keeper (length drafts.now) (bytes_in (map entry_in drafts.now)) }
         ensures not_full { OnOk result (K.is_full self.old.keeper (length drafts.now)
             (bytes_in (map entry_in drafts.now)) → ⊥) }
+        ensures changes { K.changes self.new.keeper ≡ K.changes self.old.keeper }
+        ensures kept { K.records self.new.keeper ≡ K.records self.old.keeper }
+        ensures holds { (image : Image) → K.holds self.new.keeper image
+            ↔ K.holds self.old.keeper image }
         ensures time { K.moment self.new.keeper ≡ K.moment self.old.keeper }
         ensures since { (t : ℕ) (image : Image) → K.held_since self.new.keeper t image
             ↔ K.held_since self.old.keeper t image }
@@ -183,6 +189,9 @@ impl<K: Keeper> Pages<K> {
         requires one { OneNeeds (map entry_in drafts.items) }
         ensures writes { Writes (K.is_full self.old.keeper) result (map entry_in drafts.items)
             self.old self.new }
+        ensures changes { K.changes self.new.keeper ≡ K.changes self.old.keeper }
+        ensures quiet { WhereNone (Quiet K.records K.holds K.moment K.held_since self.old.keeper
+            self.new.keeper) result }
         ensures any_moment { WhereTold self.old.records
             (λ rs. LeavesOnly K.moment K.held_since self.old.keeper self.new.keeper
             (AddsSome rs (map entry_in drafts.items))) }
@@ -203,6 +212,8 @@ impl<K: Keeper> Pages<K> {
     /// no memory.
     pub(crate) fn mend(&mut self) -> Mended
         ensures mends { Mends result self.old self.new }
+        ensures changes { MendChanges result (K.changes self.old.keeper)
+            (K.changes self.new.keeper) }
         ensures whole { self.old.tried ≡ None → Same self.old self.new }
         ensures any_moment { (e : an_entry.Entry) → self.old.tried ≡ Some e
             → WhereTold self.old.records
@@ -229,7 +240,8 @@ impl<K: Keeper> Pages<K> {
 
     /// What holds of all pages.
     pub(crate) fn sound(&self)
-        ensures { IsPage K.records K.counted K.rests K.doubts self.now }
+        ensures page { IsPage K.records K.counted K.rests K.doubts self.now }
+        ensures faults { K.faults self.now.keeper ≡ self.now.faults }
     {
         let _ = &self.keeper;
     }

@@ -85,6 +85,7 @@ fn read_next<K: Keeper, L: Ledger>(
     ensures cause { IsErrOf result BookFault.KeeperFault
         → Rose (K.faults keeper.old) (K.faults keeper.new) }
     ensures later { K.faults keeper.old ≤ K.faults keeper.new }
+    ensures changes { K.changes keeper.new ≡ K.changes keeper.old }
     ensures steps { FewSteps result steps.old steps.new }
 {
     let number = state.entries();
@@ -123,6 +124,7 @@ pub(crate) fn replay<K: Keeper, L: Ledger>(
     ensures cause { IsErrOf result BookFault.KeeperFault
         → Rose (K.faults keeper.old) (K.faults keeper.new) }
     ensures later { K.faults keeper.old ≤ K.faults keeper.new }
+    ensures changes { K.changes keeper.new ≡ K.changes keeper.old }
     ensures not_full { IsErrOf result BookFault.Full → ⊥ }
 {
     states_stay();

@@ -1,6 +1,7 @@
 -- A keeper over a journal has the laws of a keeper.
-use Rattle.std.specs.Prelude.{◌≡◌, ◌<◌, ◌^◌, ◌↔◌, ◌++◌, ◌∷◌, [], ℕ, List, Option, Some, length, take}
+use Rattle.std.specs.Prelude.{◌≡◌, ◌<◌, ◌≤◌, ◌^◌, ◌↔◌, ◌++◌, ◌∷◌, [], ℕ, List, Option, Some, length, take}
 use Rattle.std.proofs.Common.{sym, ◌∙◌, ap, subst, inl, inr, arith}
+use Rattle.wire_ids.specs.Causes.{Rose}
 use Rattle.disk_model.specs.Disk.{WhereTold}
 use Rattle.disk_journal.specs.Format.{journal_of, kept}
 use Rattle.disk_journal.specs.Journal.{place}
@@ -8,7 +9,7 @@ use Rattle.disk_journal.proofs.Results.{mapped}
 use Rattle.disk_journal.proofs.Records.{journal_shut}
 use Rattle.disk_journal.proofs.Put.{may_have_journal}
 use Rattle.keepers.specs.Keeper.{Image, HoldsOnly, OneMoreOrNot}
-use Rattle.keepers.specs.JournalKeepers.{end_of, keeper_count, keeper_disk, keeper_end, keeper_faults, keeper_records, IsPastLimit, Journals, KeeperDoubts, KeeperReads, KeeperRests}
+use Rattle.keepers.specs.JournalKeepers.{end_of, keeper_changed, keeper_count, keeper_disk, keeper_end, keeper_faults, keeper_records, IsPastLimit, Journals, KeeperDoubts, KeeperReads, KeeperRests}
 use Rattle.keepers.specs.declared.journal_keeper.JournalKeeper.{JournalKeeper}
 
 module _ {D : Type 0} (seen : D → Option (List ℕ)) (images : D → List ℕ → Type 0) (k : JournalKeeper D) where
@@ -63,3 +64,11 @@ module _ {D : Type 0} (seen : D → Option (List ℕ)) (images : D → List ℕ 
   -- where the disk tells, the count of faults is the disk's
   pub told_faults : (faults : D → ℕ) → KeeperReads seen k → (r : List (List ℕ)) → keeper_records seen k ≡ Some r → keeper_faults faults k ≡ faults (keeper_disk k)
   told_faults faults reads r is = omega (arith, reads.0 r is)
+
+-- between two moments of a keeper that finds nothing changed its disk's count of faults goes as its own
+module _ {D : Type 0} (faults : D → ℕ) (old new : JournalKeeper D) where
+  pub disk_later : keeper_changed new ≡ keeper_changed old → keeper_faults faults old ≤ keeper_faults faults new → faults (keeper_disk old) ≤ faults (keeper_disk new)
+  disk_later same later = omega (arith, same, later)
+
+  pub disk_rose_only : keeper_changed old ≡ 0 → keeper_changed new ≡ keeper_changed old → Rose (keeper_faults faults old) (keeper_faults faults new) → Rose (faults (keeper_disk old)) (faults (keeper_disk new))
+  disk_rose_only none same rose = omega (arith, none, same, rose)

@@ -1,5 +1,6 @@
 -- What a keeper stands for: its list of records, and the lists that its images hold.
 use Rattle.std.specs.Prelude.{◌≡◌, ◌⊎◌, ◌≤◌, ℕ, List, ◌∷◌, [], ◌++◌, Option, Some}
+use Rattle.wire_ids.specs.Causes.{Rose}
 
 -- a list of records, where an image holds one
 abbrev pub Image : Type 0
@@ -20,3 +21,7 @@ pub record Quiet {K : Type 0} (records : K → Image) (holds : K → Image → T
   pub none_new : (image : Image) → holds new image → holds old image
   pub later : moment old ≤ moment new
   pub before : (t : ℕ) (image : Image) → t ≤ moment old → since new t image → since old t image ⊎ holds old image
+
+-- a count is the same, or has risen
+abbrev pub MayChange : ℕ → ℕ → Type 0
+MayChange before now = (now ≡ before) ⊎ Rose before now

@@ -85,9 +85,11 @@ impl<D: Disk> JournalKeeper<D> {
 }
 
 impl<D: Disk> Keeper for JournalKeeper<D> {
-    ghost use Rattle.keepers.specs.JournalKeepers.{end_of, keeper_count, keeper_disk, keeper_end};
-    ghost use Rattle.keepers.specs.JournalKeepers.{keeper_faults, keeper_records, IsPastLimit};
-    ghost use Rattle.keepers.specs.JournalKeepers.{Journals, KeeperDoubts, KeeperReads};
+    ghost use Rattle.std.proofs.Common.{arith};
+    ghost use Rattle.keepers.specs.JournalKeepers.{end_of, keeper_changed, keeper_count};
+    ghost use Rattle.keepers.specs.JournalKeepers.{keeper_disk, keeper_end, keeper_faults};
+    ghost use Rattle.keepers.specs.JournalKeepers.{keeper_records, IsPastLimit, Journals};
+    ghost use Rattle.keepers.specs.JournalKeepers.{KeeperDoubts, KeeperReads};
     ghost use Rattle.keepers.specs.JournalKeepers.{KeeperRests};
     ghost use Rattle.keepers.specs.JournalLaws.{count_is, doubt_journals, doubt_reads};
     ghost use Rattle.keepers.specs.JournalLaws.{past_limit, rest_only, rest_reads};
@@ -101,6 +103,8 @@ impl<D: Disk> Keeper for JournalKeeper<D> {
     ghost held_since = { λ k t. Journals (D.images_since (keeper_disk k) t) };
 
     ghost faults = { keeper_faults D.faults };
+
+    ghost changes = { keeper_changed };
 
     ghost counted = { keeper_count };
 
@@ -127,6 +131,10 @@ impl<D: Disk> Keeper for JournalKeeper<D> {
     ghost rest_is_readable = { rest_reads D.seen D.images };
 
     ghost doubt_is_readable = { doubt_reads D.seen D.images };
+
+    ghost changes_are_faults = { λ k. omega arith };
+
+    ghost told_unchanged = { λ k readable. readable.0 };
 
     ghost counts = { λ k. count_is D.seen D.images k };
 

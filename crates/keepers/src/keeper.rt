@@ -4,7 +4,7 @@ ghost use Rattle.std.specs.Prelude.{IfOk, OnOk, OnErr, IsErrOf};
 ghost use Rattle.wire_ids.specs.Causes.{HasCause, Rose};
 ghost use Rattle.disk_model.specs.Disk.{LeavesOnly, WhereTold};
 ghost use Rattle.disk_journal.specs.Journal.{WithIf};
-ghost use Rattle.keepers.specs.Keeper.{HoldsOnly, Image, OneMoreOrNot, Quiet};
+ghost use Rattle.keepers.specs.Keeper.{HoldsOnly, Image, MayChange, OneMoreOrNot, Quiet};
 
 /// A call of a keeper failed: its count of faults has risen.
 #[derive(Clone, Copy, Debug, PartialEq, Eq)]
@@ -48,6 +48,9 @@ pub trait Keeper {
     /// How often it has failed.
     ghost faults: { Self → ℕ };
 
+    /// How often it has failed, and what it stands on hadn't: what it kept was found changed.
+    ghost changes: { Self → ℕ };
+
     /// How many records it has, told or not.
     ghost counted: { Self → ℕ };
 
@@ -90,6 +93,7 @@ pub trait Keeper {
         ensures since { (t : ℕ) (image : Image)
             → held_since self.new t image ↔ held_since self.old t image }
         ensures faults { faults self.new ≡ faults self.old }
+        ensures changes { changes self.new ≡ changes self.old }
         ensures counted { counted self.new ≡ counted self.old };
 
     /// Adds a record, for which room was made, and uses that room up. After Ok each image holds it
@@ -108,6 +112,7 @@ pub trait Keeper {
         ensures kept { OnErr result (records self.new ≡ records self.old) }
         ensures kept_count { OnErr result (counted self.new ≡ counted self.old) }
         ensures cause { HasCause (faults self.old) (faults self.new) result }
+        ensures changes { changes self.new ≡ changes self.old }
         // At each moment each image holds the records before, with the new one or without it.
         ensures any_moment { WhereTold (records self.old)
             (λ r. LeavesOnly moment held_since self.old self.new (OneMoreOrNot r bytes.now)) };
@@ -126,6 +131,8 @@ pub trait Keeper {
         ensures kept { OnErr result (records self.new ≡ records self.old) }
         ensures kept_count { OnErr result (counted self.new ≡ counted self.old) }
         ensures cause { HasCause (faults self.old) (faults self.new) result }
+        ensures changes { OnOk result (changes self.new ≡ changes self.old) }
+        ensures changed { OnErr result (MayChange (changes self.old) (changes self.new)) }
         // At each moment each image holds the records before, with the tried one or without it.
         ensures any_moment { WhereTold (records self.old)
             (λ r. LeavesOnly moment held_since self.old self.new (OneMoreOrNot r tried.now)) };
@@ -147,7 +154,8 @@ pub trait Keeper {
         ensures bytes { spare_bytes self.new ≡ spare_bytes self.old }
         ensures cause { IsErrOf result KeepReadFault.KeeperFault
             → Rose (faults self.old) (faults self.new) }
-        ensures later { faults self.old ≤ faults self.new };
+        ensures later { faults self.old ≤ faults self.new }
+        ensures changes { changes self.new ≡ changes self.old };
 
     /// What its images hold now they hold since an earlier moment.
     ghost now_is_since: { (keeper : Self) (t : ℕ) (image : Image) → t ≤ moment keeper
@@ -161,6 +169,13 @@ pub trait Keeper {
 
     ghost doubt_is_readable: { (keeper : Self) (tried : List ℕ) → doubts keeper tried
         → readable keeper };
+
+    /// They are among its faults.
+    ghost changes_are_faults: { (keeper : Self) → changes keeper ≤ faults keeper };
+
+    /// Where it tells its records it hasn't found them changed.
+    ghost told_unchanged: { (keeper : Self) → readable keeper
+        → WhereTold (records keeper) (λ r. changes keeper ≡ 0) };
 
     /// Its count is that of its records.
     ghost counts: { (keeper : Self) → readable keeper

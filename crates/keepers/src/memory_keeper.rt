@@ -34,6 +34,7 @@ impl MemoryKeeper {
 }
 
 impl Keeper for MemoryKeeper {
+    ghost use Rattle.std.proofs.Common.{arith, refl};
     ghost use Rattle.keepers.specs.Memory.{HadSince};
     ghost use Rattle.keepers.specs.MemoryKeepers.{memory_records};
     ghost use Rattle.keepers.specs.MemoryLaws.{count_is, had_now, now_had, only_records};
@@ -48,6 +49,8 @@ impl Keeper for MemoryKeeper {
     ghost held_since = { λ k. HadSince (memory_records k) };
 
     ghost faults = { λ k. 0 };
+
+    ghost changes = { λ k. 0 };
 
     ghost counted = { λ k. length k.lengths.items };
 
@@ -72,6 +75,10 @@ impl Keeper for MemoryKeeper {
     ghost rest_is_readable = { λ k rests. rests };
 
     ghost doubt_is_readable = { λ k tried doubts. doubts };
+
+    ghost changes_are_faults = { λ k. omega arith };
+
+    ghost told_unchanged = { λ k readable r told. refl };
 
     ghost counts = { λ k readable. count_is k.lengths.items k.text.items };
 

@@ -13,6 +13,7 @@ invariant-records g l =
       rests : K.rests l.keeper;
       quiet : Quiet K.records K.holds K.moment K.held_since l.fn.keeper l.keeper;
       later : K.faults l.fn.keeper ≤ K.faults l.keeper;
+      changes : K.changes l.keeper ≡ K.changes l.fn.keeper;
       counted : K.counted l.keeper ≡ K.counted l.fn.keeper;
       count : l.count ≡ K.counted l.fn.keeper;
       within : l.state.now.entries ≤ l.count;

@@ -20,7 +20,7 @@ invariant_of-self g c =
     let full = K.is_full c.self.inside.pages.keeper in
     book_written full c.write.result entry _ _ c.self.invariant
     (ap (λ (b : Sight g.row.K.Denot). b.page.tried) c.self.view_is ∙ c.requires.whole)
-    c.sound.ensures.history
+    c.sound.ensures.page.history
     c.in-Ok.ensures.again
     (subst (λ (b : Sight g.row.K.Denot). IsTrue (fits b.page.desk.now entry)) (sym c.self.view_is) c.requires.fit)
     (subst (λ (b : Sight g.row.K.Denot). IsStep b.page.config b.fixed.keys b.page.desk entry entry.event) (sym c.self.view_is) c.requires.step)
@@ -44,4 +44,4 @@ returns-in-Err-clause-any_moment g c =
     let keeper = c.self.inside.pages.keeper in
     let whole = ap (λ (b : Sight g.row.K.Denot). b.page.tried) c.self.view_is ∙ c.requires.whole in
     weaker K.moment K.held_since keeper keeper (λ image. image ≡ Some x) (OneMoreOrNot x (encode_of entry)) (λ image is. inl is)
-    (stood K.moment K.held_since (K.holds keeper) keeper x (g.met.K.Keeper.since_is_now keeper) (g.met.K.Keeper.rest_holds keeper (c.sound.ensures.whole whole) x (sym c.sound.ensures.told ∙ told))))
+    (stood K.moment K.held_since (K.holds keeper) keeper x (g.met.K.Keeper.since_is_now keeper) (g.met.K.Keeper.rest_holds keeper (c.sound.ensures.page.whole whole) x (sym c.sound.ensures.page.told ∙ told))))

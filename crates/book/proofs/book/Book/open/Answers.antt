@@ -6,14 +6,15 @@ use Rattle.agreements.specs.Walk.{Config}
 use Rattle.disk_model.specs.Disk.{LeavesOnly, WhereTold}
 use Rattle.disk_model.proofs.Moments.{then, weaker}
 use Rattle.entries.specs.Entries.{encode_of}
-use Rattle.keepers.proofs.Runs.{quiet_leaves}
+use Rattle.keepers.specs.Keeper.{Quiet}
+use Rattle.keepers.proofs.Runs.{quiet_leaves, quiet_then}
 use Rattle.roam_core.specs.Desk.{moment_of}
 use Rattle.book.specs.Histories.{IsLegalSince}
-use Rattle.book.specs.Opening.{FailsToBegin, MayOpen, opening}
+use Rattle.book.specs.Opening.{CountLeft, FailsToBegin, MayOpen, UnlessFailed, opening}
 use Rattle.book.specs.Pages.{AddsSome}
 use Rattle.book.specs.Replays.{IsRead}
 use Rattle.book.specs.declared.faults.BookFault.{BookFault}
-use Rattle.book.proofs.Openings.{entries_then, fails_to_open, rose_from, some_opening, told_opening}
+use Rattle.book.proofs.Openings.{count_same, entries_then, fails_to_open, rose_from, some_opening, told_opening, unless, unless_then, whole_after}
 use Rattle.book.proofs.book.Book.open.Goals as goal
 
 pub returns-in-Err-clause-any_moment : goal.returns-in-Err-clause-any_moment
@@ -38,6 +39,43 @@ returns-in-Err-begin-clause-cause g c =
     λ is.
     let rose : Rose mid.faults c.begin.new.self.faults = subst (λ (f : BookFault). FailsToBegin (K.is_full mid.keeper) (opening c.args.text c.args.now.0 mid.desk) f mid c.begin.new.self) is c.in-Err-begin.ensures.fails in
     subst (λ (n : ℕ). Rose (K.faults c.args.keeper) n) (sym c.into_keeper.ensures.faults) (rose_from (K.faults c.args.keeper) mid.faults c.begin.new.self.faults c.in-Ok.ensures.later rose)
+
+pub returns-in-Err-clause-left : goal.returns-in-Err-clause-left
+returns-in-Err-clause-left g c = unless c.in-Err.held.fault c.in-Err.ensures.quiet_err
+
+pub returns-in-Err-clause-rests_left : goal.returns-in-Err-clause-rests_left
+returns-in-Err-clause-rests_left g c = unless c.in-Err.held.fault c.in-Err.ensures.rests_err
+
+pub returns-in-Err-clause-count_left : goal.returns-in-Err-clause-count_left
+returns-in-Err-clause-count_left g c =
+    let K = g.K.Keeper in
+    count_same c.in-Err.held.fault (K.counted c.args.keeper) (K.counted c.in-Err.held.object) c.in-Err.ensures.counted_err
+
+pub returns-in-Err-begin-clause-left : goal.returns-in-Err-begin-clause-left
+returns-in-Err-begin-clause-left g c =
+    let K = g.K.Keeper in
+    let old = c.args.keeper in
+    let mid = c.in-Ok.pages.keeper in
+    subst (λ k. UnlessFailed (Quiet K.records K.holds K.moment K.held_since old k) c.in-Err-begin.fault) (sym c.into_keeper.ensures.keeper)
+    (unless_then c.in-Err-begin.fault (quiet_then K.records K.holds K.moment K.held_since old mid c.begin.new.self.keeper c.in-Ok.ensures.quiet) c.in-Err-begin.ensures.left)
+
+pub returns-in-Err-begin-clause-rests_left : goal.returns-in-Err-begin-clause-rests_left
+returns-in-Err-begin-clause-rests_left g c =
+    let K = g.K.Keeper in
+    let mid = c.in-Ok.pages in
+    let es = opening c.args.text c.args.now.0 mid.desk in
+    subst (λ k. UnlessFailed (K.rests k) c.in-Err-begin.fault) (sym c.into_keeper.ensures.keeper)
+    (whole_after (K.is_full mid.keeper) es c.in-Err-begin.fault mid c.begin.new.self c.in-Ok.ensures.whole c.in-Err-begin.ensures.fails c.sound.ensures.page.whole)
+
+pub returns-in-Err-begin-clause-count_left : goal.returns-in-Err-begin-clause-count_left
+returns-in-Err-begin-clause-count_left g c =
+    let K = g.K.Keeper in
+    let now : c.begin.new.self.desk.now.entries ≡ K.counted c.into_keeper.result = c.sound.ensures.page.count ∙ ap K.counted (sym c.into_keeper.ensures.keeper) in
+    subst (λ n. CountLeft n (K.counted c.into_keeper.result) c.in-Err-begin.fault) c.in-Ok.ensures.entries
+    (subst (λ n. CountLeft c.in-Ok.pages.desk.now.entries n c.in-Err-begin.fault) now c.in-Err-begin.ensures.count_left)
+
+pub returns-in-Err-begin-clause-changes : goal.returns-in-Err-begin-clause-changes
+returns-in-Err-begin-clause-changes g c = ap g.K.Keeper.changes c.into_keeper.ensures.keeper ∙ c.begin.ensures.changes ∙ c.in-Ok.ensures.changes
 
 pub returns-in-Err-begin-clause-later : goal.returns-in-Err-begin-clause-later
 returns-in-Err-begin-clause-later g c = omega (arith, c.into_keeper.ensures.faults, c.in-Ok.ensures.later, c.begin.ensures.later)
@@ -117,3 +155,17 @@ returns-clause-any_moment g c =
     (weaker K.moment K.held_since old mid.keeper (λ image. image ≡ Some x) P (λ image is. inl is)
     (quiet_leaves K.records K.holds K.moment K.held_since (λ image. image ≡ Some x) old mid.keeper c.in-Ok.ensures.quiet (g.met.K.Keeper.since_is_now old) (g.met.K.Keeper.rest_holds old c.requires.rests x told).each))
     (weaker K.moment K.held_since mid.keeper new (AddsSome x es) P (λ image some. inr (mid.desk, subst (λ (t : List ℕ). IsRead c.args.tables t x mid.desk) c.as_slice.ensures (c.in-Ok.ensures.read x told), some)) (c.begin.ensures.any_moment x (c.in-Ok.ensures.records ∙ told)))
+
+pub returns-clause-begins : goal.returns-clause-begins
+returns-clause-begins g c =
+    let K = g.K.Keeper in
+    let mid = c.in-Ok.pages in
+    let added = c.in-Ok-begin.ensures.added in
+    let es = opening c.args.text c.args.now.0 mid.desk in
+    record {
+      desk = mid.desk;
+      read = λ x told. subst (λ (t : List ℕ). IsRead c.args.tables t x mid.desk) c.as_slice.ensures (c.in-Ok.ensures.read x told);
+      entries = c.in-Ok.ensures.entries;
+      leads = added.desk;
+      records = added.records ∙ ap (option_map (λ (rs : List (List ℕ)). rs ++ map encode_of es)) c.in-Ok.ensures.records;
+    }

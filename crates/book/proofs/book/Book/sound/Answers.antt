@@ -9,4 +9,4 @@ pub returns-clause-held : goal.returns-clause-held
 returns-clause-held g c =
     let K = g.K.Keeper in
     subst (λ (p : Page g.row.K.Denot). p.tried ≡ None → WhereTold p.records (HoldsOnly (K.holds p.keeper))) (ap (λ (b : Sight g.row.K.Denot). b.page) c.self.view_is)
-    (λ none x told. g.met.K.Keeper.rest_holds c.self.inside.pages.keeper (c.sound.ensures.whole none) x (sym c.sound.ensures.told ∙ told))
+    (λ none x told. g.met.K.Keeper.rest_holds c.self.inside.pages.keeper (c.sound.ensures.page.whole none) x (sym c.sound.ensures.page.told ∙ told))

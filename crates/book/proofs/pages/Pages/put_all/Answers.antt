@@ -17,17 +17,18 @@ loop-draft-init g c =
     let K = g.K.Keeper in
     let self = c.args.self.now in
     let all = c.into_iter-draft-iterator.ensures.into_iter_gives in
-    let rest = c.sound.ensures.whole c.requires.whole in
+    let rest = c.sound.ensures.page.whole c.requires.whole in
     record {
       all = all.0;
       count = search rules;
       adds = record { records = no_more self.records; desk = refl; config = refl; tried = c.requires.whole; later = omega arith };
       fit = subst (λ (ds : List Draft). AllFit self.desk.now (map entry_in ds)) (sym all.0) c.requires.fit;
       room = subst (λ (ds : List Draft). HasRoom self.spare (map entry_in ds)) (sym all.0) c.requires.room;
+      changes = refl;
       records = rw all.0 c.requires.records;
       bytes = rw all.0 c.requires.bytes;
       moments = λ x told. weaker K.moment K.held_since self.keeper self.keeper _ _ (none_yet x (map entry_in c.args.drafts.items))
-          (stood K.moment K.held_since (K.holds self.keeper) self.keeper x (g.met.K.Keeper.since_is_now self.keeper) (g.met.K.Keeper.rest_holds self.keeper rest x (sym c.sound.ensures.told ∙ told)));
+          (stood K.moment K.held_since (K.holds self.keeper) self.keeper x (g.met.K.Keeper.since_is_now self.keeper) (g.met.K.Keeper.rest_holds self.keeper rest x (sym c.sound.ensures.page.told ∙ told)));
     }
 
 pub loop-draft-preserved : goal.loop-draft-preserved
@@ -52,6 +53,7 @@ loop-draft-preserved g c =
       adds = subst (λ (es : List Entry). Adds es None c.args.self.now c.put.new.self) (sym named) (adds_then (map entry_in at.yielded) (draft.entry ∷ []) None c.args.self.now at.self c.put.new.self was.adds added);
       fit = subst (λ (s : Desk). AllFit s.now (map entry_in left)) (sym added.desk) fits.1;
       room = room_for c.put.new.self.spare (map entry_in left) room.1;
+      changes = c.put.ensures.changes ∙ was.changes;
       records = omega (arith, was.records, c.in_ok-put.ensures.records);
       bytes = omega (arith, was.bytes, c.in_ok-put.ensures.bytes);
       moments = λ x told. moments_then K.moment K.held_since c.args.self.now.keeper at.self.keeper c.put.new.self.keeper x (map entry_in c.args.drafts.items) (map entry_in at.yielded) draft.entry (map entry_in left)

@@ -16,6 +16,7 @@ invariant-loop-draft g l =
       adds : Adds (map entry_in l.yielded) None l.fn.self l.self;
       fit : AllFit l.self.desk.now (map entry_in left);
       room : HasRoom l.self.spare (map entry_in left);
+      changes : K.changes l.self.keeper ≡ K.changes l.fn.self.keeper;
       records : length left ≤ K.spare_records l.self.keeper;
       bytes : bytes_in (map entry_in left) ≤ K.spare_bytes l.self.keeper;
       moments : WhereTold l.fn.self.records (λ rs. LeavesOnly K.moment K.held_since l.fn.self.keeper l.self.keeper (AddsSome rs (map entry_in l.fn.drafts.items)));

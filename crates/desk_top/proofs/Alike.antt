@@ -7,7 +7,6 @@ use Rattle.wire_ids.specs.declared.keys.RootKeys.{RootKeys}
 use Rattle.agreements.specs.Walk.{Config}
 use Rattle.disk_model.specs.Moments.{Told}
 use Rattle.disk_model.specs.Written.{AppendsFront}
-use Rattle.disk_model.proofs.WrittenLemmas.{AppendsFront_none}
 use Rattle.line_reader.specs.Hearing.{UsesUp}
 use Rattle.line_reader.specs.declared.reader.Heard.TheVariants.{Line}
 use Rattle.entries.specs.declared.entry.Entry.{Entry}
@@ -15,7 +14,7 @@ use Rattle.roam_core.specs.Desk.{Desk, desk_with, moment_of}
 use Rattle.roam_core.specs.Lines.{Reaction, answer_to, one_more, reaction}
 use Rattle.roam_core.specs.Legal.{desk_from}
 use Rattle.roam_core.proofs.Long.{too_long_alike}
-use Rattle.desk_top.specs.Output.{answer_line, desk_then, entry_then}
+use Rattle.desk_top.specs.Output.{desk_then, entry_then}
 use Rattle.desk_top.specs.Journals.{Grows, Outside}
 use Rattle.desk_top.specs.Turns.{Turns, TurnStops, WritesFront}
 use Rattle.desk_top.proofs.TurnLemmas.{front_of_line, front_unmade}

@@ -1,7 +1,7 @@
 -- What stands written where the input fails, or is too much.
-use Rattle.std.proofs.Common.{◌≡◌, ◌≢◌, ◌↔◌, ◌<◌, ◌≤◌, ℕ, ◌+◌, List, [], ◌∷◌, ◌++◌, length, take, Option, Some, None, Result, Ok, Err, sym, ◌∙◌, ap, refl, subst, append_assoc, arith, inl, inr}
+use Rattle.std.proofs.Common.{◌≡◌, ◌≢◌, ◌↔◌, ◌<◌, ◌≤◌, ℕ, ◌+◌, List, [], ◌∷◌, ◌++◌, length, take, Option, Some, None, Result, Err, sym, ◌∙◌, ap, refl, subst, append_assoc, arith, inl, inr}
 use Rattle.std.proofs.lemmas.List.{append-nil, length-append, take_all, take-append-le}
-use Rattle.std.specs.Io.KnownBytes.{Appends, IsAtEnd, Keeps}
+use Rattle.std.specs.Io.KnownBytes.{Appends, Keeps}
 use Rattle.disk_model.specs.Moments.{Told}
 use Rattle.line_reader.specs.Ahead.{TakesCount}
 use Rattle.line_reader.specs.Hearing.{StopsBehind, StopsInLine}
@@ -15,7 +15,7 @@ use Rattle.desk_top.specs.Output.{entries_to, output_of}
 use Rattle.desk_top.specs.Faults.{IsOfLines, StopsLines}
 use Rattle.desk_top.specs.Journals.{Grows, Outside}
 use Rattle.desk_top.specs.Tasks.{LinesAnswered, Unwritten}
-use Rattle.desk_top.specs.Turns.{AreUsed, IsUnderWay, StopsIn, WritesAll, WritesFront, WritesTaken, WritesWhole}
+use Rattle.desk_top.specs.Turns.{AreUsed, IsUnderWay, StopsIn, WritesFront, WritesTaken, WritesWhole}
 use Rattle.desk_top.specs.declared.fault.Stop.{Stop}
 use Rattle.desk_top.specs.declared.fault.Fault.{Fault}
 use Rattle.desk_top.specs.declared.fault.Fault.TheVariants.{Usage, Refused, NoDevice, TablesRead, InputRead, Write, TooMuch, Journal, Memory}

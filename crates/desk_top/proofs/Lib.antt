@@ -9,4 +9,9 @@ pub mod Alike
 pub mod WordLemmas
 pub mod MarkLemmas
 pub mod DeskLemmas
+pub mod DiskLemmas
+pub mod HistoryLemmas
+pub mod CourseLemmas
+pub mod DoneLemmas
+pub mod WorkLemmas
 pub mod StatusLemmas

@@ -1,8 +1,7 @@
 -- What marking a device comes to.
-use Rattle.std.proofs.Common.{◌≡◌, ◌∙◌, ℕ, List, [], ◌∷◌, Bool, true, false, Option, refl}
+use Rattle.std.proofs.Common.{◌≡◌, ◌∙◌, ℕ, [], ◌∷◌, Bool, true, false, refl}
 use Rattle.std.specs.Io.KnownBytes.{Keeps}
 use Rattle.disk_model.specs.Moments.{Told}
-use Rattle.entries.specs.declared.entry.Entry.{Entry}
 use Rattle.roam_core.specs.Desk.{Desk, moment_of}
 use Rattle.book.specs.Results.{mark_of}
 use Rattle.desk_top.specs.Journals.{Grows, Outside}

@@ -1,7 +1,9 @@
 -- Why tables weren't opened.
-use Rattle.std.proofs.Common.{◌≡◌, ℕ, List, Option, Err, subst}
+use Rattle.std.proofs.Common.{◌≡◌, ◌∙◌, ℕ, List, Option, Some, Err, refl, ap, subst}
 use Rattle.wire_ids.specs.Causes.{Rose}
 use Rattle.disk_model.specs.Disk.{WhereTold}
+use Rattle.disk_journal.specs.Format.{journal_of}
+use Rattle.disk_journal.specs.Journals.{IsOpeningFault}
 use Rattle.disk_journal.specs.Walked.{IsForeign}
 use Rattle.disk_journal.specs.declared.fault.JournalFault.{JournalFault}
 use Rattle.disk_journal.specs.declared.fault.JournalFault.TheVariants as journal
@@ -9,7 +11,7 @@ use Rattle.keepers.specs.Keeper.{Image}
 use Rattle.book.specs.Opening.{FailsToOpen}
 use Rattle.book.specs.declared.faults.BookFault.{BookFault}
 use Rattle.book.specs.declared.faults.BookFault.TheVariants as book
-use Rattle.desk_top.specs.Journals.{NotOpened, NotTaken, StopsOpening, StopsTaking, TellsBook, TellsBookStop, TellsJournal, TellsStop}
+use Rattle.desk_top.specs.Journals.{LeavesDisk, LeavesSo, NotOpened, NotTaken, StopsOpening, StopsTaking, TellsBook, TellsBookStop, TellsJournal, TellsStop, records_in}
 use Rattle.desk_top.specs.declared.fault.Stop.{Stop}
 use Rattle.desk_top.specs.declared.fault.Stop.TheVariants as stop
 use Rattle.agreements.specs.Walk.{Config, tables_of}
@@ -75,3 +77,35 @@ not_opened fills c text reading records before now fault Write told cause fails 
 not_opened fills c text reading records before now fault TooMuch told cause fails = absurd told
 not_opened fills c text reading records before now fault (Journal why) told cause fails = stop_opening fills c text reading records before now fault why told cause fails
 not_opened fills c text reading records before now fault Memory told cause fails = tt
+
+-- ---- what is left of a disk that isn't taken
+
+as_told : (content after : Option (List ℕ)) (c : List ℕ) → after ≡ content → content ≡ Some c → records_in after ≡ journal_of c
+as_told content after c same told = ap records_in (same ∙ told)
+
+left_same : (content after : Option (List ℕ)) (fault : JournalFault) → IsOpeningFault fault → (fault ≡ journal.DiskFault → ⊥) → ((place : ℕ) → fault ≡ journal.NotAJournal place → after ≡ content)
+    → (fault ≡ journal.Memory → after ≡ content) → WhereTold content (λ (c : List ℕ). records_in after ≡ journal_of c)
+left_same content after journal.DiskFault of not foreign memory = absurd (not refl)
+left_same content after (journal.NotAJournal place) of not foreign memory = λ c told. as_told content after c (foreign place refl) told
+left_same content after journal.Full of not foreign memory = absurd of
+left_same content after (journal.Changed place) of not foreign memory = absurd of
+left_same content after journal.Memory of not foreign memory = λ c told. as_told content after c (memory refl) told
+
+stop_leaves : (content after : Option (List ℕ)) (torn : Type 0) (fault : JournalFault) (why : Stop) → TellsStop fault why → torn → ((place : ℕ) → fault ≡ journal.NotAJournal place → after ≡ content) → LeavesSo content after torn why
+stop_leaves content after torn fault stop.Failed told is foreign = is
+stop_leaves content after torn fault stop.Full told is foreign = absurd told
+stop_leaves content after torn fault stop.OtherTables told is foreign = absurd told
+stop_leaves content after torn fault (stop.NotAJournal line) told is foreign = foreign told.0 told.1
+stop_leaves content after torn fault (stop.BadEntry line) told is foreign = absurd told
+
+pub leaves_disk : (content after : Option (List ℕ)) (torn : Type 0) (fault : JournalFault) (e : Fault) → TellsJournal fault e → IsOpeningFault fault → torn → ((place : ℕ) → fault ≡ journal.NotAJournal place → after ≡ content)
+    → (fault ≡ journal.Memory → after ≡ content) → LeavesDisk content after torn e
+leaves_disk content after torn fault Usage told of is foreign memory = absurd told
+leaves_disk content after torn fault (Refused line) told of is foreign memory = absurd told
+leaves_disk content after torn fault (NoDevice line) told of is foreign memory = absurd told
+leaves_disk content after torn fault TablesRead told of is foreign memory = absurd told
+leaves_disk content after torn fault InputRead told of is foreign memory = absurd told
+leaves_disk content after torn fault Write told of is foreign memory = absurd told
+leaves_disk content after torn fault TooMuch told of is foreign memory = absurd told
+leaves_disk content after torn fault (Journal why) told of is foreign memory = stop_leaves content after torn fault why told is foreign
+leaves_disk content after torn fault Memory told of is foreign memory = left_same content after fault of told foreign memory

@@ -1,5 +1,5 @@
 -- What a status tells.
-use Rattle.std.proofs.Common.{◌≡◌, ℕ, Ok, Err, refl, sym, ap, ◌∙◌, arith}
+use Rattle.std.proofs.Common.{◌≡◌, ℕ, List, Ok, Err, refl, sym, ap, ◌∙◌, arith}
 use Rattle.std.specs.Prelude.{◌↔◌}
 use Rattle.desk_top.specs.Ends.{Ends, status_of, status_of_stop}
 use Rattle.desk_top.specs.Runs.{End, Run}
@@ -28,7 +28,7 @@ only_usage (Err TooMuch) is = absurd (omega (arith, is))
 only_usage (Err Memory) is = absurd (omega (arith, is))
 
 -- 2 says that the words are no command
-pub usage_told : {S T O D K : Type 0} (run : Run S T O D K) (status : ℕ) → Ends run status → (status ≡ 2) ↔ SpellsNone run.words
+pub usage_told : {S T O D K : Type 0} {images : D → List ℕ → Type 0} (run : Run S T O D K) (status : ℕ) → Ends images run status → (status ≡ 2) ↔ SpellsNone run.words
 usage_told run status ends = (
   λ is. ends.promises.usage.0 (only_usage ends.end (sym ends.status ∙ is)),
   λ none. ends.status ∙ ap status_of (ends.promises.usage.1 none),

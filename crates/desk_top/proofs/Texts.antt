@@ -35,7 +35,7 @@ still_long : (n : ℕ) (bytes : List ℕ) → n < length bytes → n < length (t
 still_long n bytes l = rw length-take (omega (arith, l))
 
 -- a text that is too long is refused for that
-too_long : (text : List ℕ) → 4194304 < length text → tables_of text ≡ Err (TooMany (codes "text") 4194304)
+pub too_long : (text : List ℕ) → 4194304 < length text → tables_of text ≡ Err (TooMany (codes "text") 4194304)
 unfolding tables_of
 too_long text l = ap (λ (t : Bool). cond t (Err (TooMany (codes "text") 4194304)) (tables_at (document_of text))) (lt-ltb 4194304 (length text) l)
 

@@ -1,5 +1,5 @@
 -- How a run may end: its status, and the line that it prints last.
-use Rattle.std.specs.Prelude.{◌≡◌, ◌≤◌, ℕ, List, codes, Option, Some, None, Result, Ok, Err}
+use Rattle.std.specs.Prelude.{◌≡◌, ◌≤◌, ℕ, List, codes, Option, Some, None, Ok, Err}
 use Rattle.std.specs.Io.KnownBytes.{Keeps}
 use Rattle.desk_top.specs.LastLines.{Prints}
 use Rattle.desk_top.specs.Promises.{Promises}
@@ -55,11 +55,11 @@ Closes before now None = Keeps before.bytes now.bytes
 Closes before now (Some line) = Prints before.faults now.faults before.bytes now.bytes line
 
 -- The run kept its promises to some end, whose last line was printed behind all else, and it has the status of that end.
-pub record Ends {S T O D K : Type 0} (run : Run S T O D K) (told : ℕ) : Type 0 where
+pub record Ends {S T O D K : Type 0} (images : D → List ℕ → Type 0) (run : Run S T O D K) (told : ℕ) : Type 0 where
   pub end : End
   -- what is seen of the output before the last line
   pub out : Seen O
-  pub promises : Promises (record run { out_after = out }) end
+  pub promises : Promises images (record run { work = record run.work { out_after = out } }) end
   pub status : told ≡ status_of end
-  pub last_line : Closes out run.out_after (last_line end)
-  pub later : out.faults ≤ run.out_after.faults
+  pub last_line : Closes out run.work.out_after (last_line end)
+  pub later : out.faults ≤ run.work.out_after.faults

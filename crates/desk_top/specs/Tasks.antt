@@ -1,6 +1,7 @@
 -- What is done on a desk that was opened.
-use Rattle.std.specs.Prelude.{◌≡◌, ◌⊎◌, ◌↔◌, ℕ, ◌<◌, List, [], ◌∷◌, ◌++◌, length, slice_get, Option, Some, None, Bool, true, false, Result, Ok, Err, IsTrue}
-use Rattle.std.specs.Io.KnownBytes.{Appends, IsAtEnd, Keeps}
+use Rattle.std.specs.Prelude.{◌≡◌, ◌≢◌, ◌⊎◌, ◌↔◌, ℕ, ◌<◌, ◌≤◌, ◌+◌, List, [], ◌∷◌, length, slice_get, Option, Some, None, Bool, true, false, Ok, Err, IsTrue}
+use Rattle.std.specs.Io.KnownBytes.{Appends, Consumes, IsAtEnd, Keeps}
+use Rattle.wire_ids.specs.Causes.{Rose}
 use Rattle.wire_ids.specs.Lists.{holds_of}
 use Rattle.wire_ids.specs.declared.eui.Eui.{Eui}
 use Rattle.wire_ids.specs.declared.keys.RootKeys.{RootKeys}
@@ -16,6 +17,8 @@ use Rattle.roam_core.specs.Desk.{Desk, moment_of}
 use Rattle.book.specs.Results.{mark_of}
 use Rattle.desk_top.specs.Journals.{DeskOpened, Grows, Outside, StaysClosed}
 use Rattle.desk_top.specs.LastLines.{marked_line}
+use Rattle.desk_top.specs.Output.{key_table}
+use Rattle.desk_top.specs.Runs.{End, SeenKeeper, Work, keeper_after, keeper_before}
 use Rattle.desk_top.specs.Turns.{StopsIn, WritesAll, WritesFront, WritesTaken, WritesWhole}
 use Rattle.desk_top.specs.declared.fault.Fault.{Fault}
 use Rattle.desk_top.specs.declared.fault.Fault.TheVariants.{Usage, Refused, NoDevice, TablesRead, InputRead, Write, TooMuch, Journal, Memory}
@@ -35,7 +38,7 @@ Unwritten fills e records doubted (stop.BadEntry line) = ⊥
 -- ---- the lines of an input are answered
 
 -- what stands written and is in the journal after that, and which entry is in doubt, by how it ended
-abbrev pub LinesAnswered : (List (List ℕ) → ℕ → ℕ → Type 0) → ℕ → Config → List RootKeys → Desk → Option (List ℕ) → Option (List ℕ) → Outside → Outside → Option Entry → Result (Unit {0}) Fault → Type 0
+abbrev pub LinesAnswered : (List (List ℕ) → ℕ → ℕ → Type 0) → ℕ → Config → List RootKeys → Desk → Option (List ℕ) → Option (List ℕ) → Outside → Outside → Option Entry → End → Type 0
 LinesAnswered fills limit c keys s input after before now doubted (Ok u) = WritesAll c keys s input before now × IsAtEnd after × (doubted ≡ None)
 LinesAnswered fills limit c keys s input after before now doubted (Err Usage) = ⊥
 LinesAnswered fills limit c keys s input after before now doubted (Err (Refused line)) = ⊥
@@ -79,7 +82,7 @@ abbrev pub StaysAsItWas : Outside → Outside → Type 0
 StaysAsItWas before now = ((readings : List ℕ) × Told before.clock now.clock readings) × Keeps before.written now.written × (now.records ≡ before.records)
 
 -- what stands written and is in the journal after that, and which entry is in doubt, by how it ended
-abbrev pub DeviceMarked : (List (List ℕ) → ℕ → ℕ → Type 0) → Bool → ℕ → Eui → Desk → Outside → Outside → Option Entry → Result (Unit {0}) Fault → Type 0
+abbrev pub DeviceMarked : (List (List ℕ) → ℕ → ℕ → Type 0) → Bool → ℕ → Eui → Desk → Outside → Outside → Option Entry → End → Type 0
 DeviceMarked fills suspended device eui s before now doubted (Ok u) = (marked : IsMarked suspended device s before now) × Appends before.written now.written (marked_line suspended marked.already eui) × (doubted ≡ None)
 DeviceMarked fills suspended device eui s before now doubted (Err Usage) = ⊥
 DeviceMarked fills suspended device eui s before now doubted (Err (Refused line)) = ⊥
@@ -93,7 +96,7 @@ DeviceMarked fills suspended device eui s before now doubted (Err Memory) = Stay
 
 -- ---- either of them
 
-abbrev pub Does : (List (List ℕ) → ℕ → ℕ → Type 0) → ℕ → Task → Config → List RootKeys → Desk → Option (List ℕ) → Option (List ℕ) → Outside → Outside → Option Entry → Result (Unit {0}) Fault → Type 0
+abbrev pub Does : (List (List ℕ) → ℕ → ℕ → Type 0) → ℕ → Task → Config → List RootKeys → Desk → Option (List ℕ) → Option (List ℕ) → Outside → Outside → Option Entry → End → Type 0
 Does fills limit Answer c keys s input after before now doubted end = LinesAnswered fills limit c keys s input after before now doubted end
 Does fills limit (Mark suspended device eui) c keys s input after before now doubted end = DeviceMarked fills suspended device eui s before now doubted end
 
@@ -107,25 +110,58 @@ HasRowMaybe c None = Unit {0}
 HasRowMaybe c (Some task) = HasRow c task
 
 -- The desk was opened on a journal, and the task done on it, or not to its end.
-pub record Serves (fills : List (List ℕ) → ℕ → ℕ → Type 0) (limit : ℕ) (task : Task) (c : Config) (text : List ℕ) (keys : List RootKeys) (input after : Option (List ℕ)) (before now : Outside) (doubted : Option Entry) (end : Result (Unit {0}) Fault) : Type 0 where
-  pub opened : DeskOpened c text before
-  pub does : Does fills limit task c keys opened.desk input after opened.outside now doubted end
+pub record Serves (fills : List (List ℕ) → ℕ → ℕ → Type 0) (limit : ℕ) (task : Task) (c : Config) (text : List ℕ) (input after : Option (List ℕ)) (before now : Outside) (doubted : Option Entry) (end : End) : Type 0 where
+  pub opened : DeskOpened fills c text before
+  pub does : Does fills limit task c (key_table c) opened.desk input after opened.outside now doubted end
 
 -- what is left of a keeper: it rests, or is in doubt about this entry
 abbrev pub Leaves : Type 0 → (List ℕ → Type 0) → Option Entry → Type 0
 Leaves rests doubts None = rests
 Leaves rests doubts (Some e) = doubts (encode_of e)
 
--- ---- what comes of a keeper: it isn't opened, or the desk is opened on it
+-- ---- what comes of a keeper
 
--- `untouched` says that the input wasn't read
-pub record RunsClosed (fills : List (List ℕ) → ℕ → ℕ → Type 0) (c : Config) (text : List ℕ) (before now : Outside) (faults faults_now : ℕ) (holds : Image → Type 0) (untouched : Type 0) (end : Result (Unit {0}) Fault) : Type 0 where
+-- There was no memory for the keys, and nothing was done.
+pub record HasNoKeys {T O P K : Type 0} (w : Work T O (SeenKeeper P) K) (end : End) : Type 0 where
+  pub end_is : end ≡ Err Memory
+  pub keeper : w.base_after ≡ w.base
+  pub input : w.input_after ≡ w.input
+  pub out : w.out_after ≡ w.out
+  pub clock : w.clock_after ≡ w.clock
+  pub steps : w.steps_after ≡ w.steps
+
+-- The desk isn't opened. The input isn't read, and nothing is written to the output.
+pub record RunsClosed {T O P K : Type 0} (fills : List (List ℕ) → ℕ → ℕ → Type 0) (holds : P → Image → Type 0) (rests : P → Type 0) (c : Config) (text : List ℕ) (w : Work T O (SeenKeeper P) K) (end : End) : Type 0 where
   pub why : Fault
   pub end_is : end ≡ Err why
-  pub stays : StaysClosed fills c text before now faults faults_now holds why
-  pub input : untouched
+  pub stays : StaysClosed fills c text (keeper_before w) (keeper_after w) w.base.faults w.base_after.faults (holds w.base_after.object) why
+  pub at_rest : why ≢ Journal stop.Failed → rests w.base_after.object
+  pub input : w.input_after ≡ w.input
+  pub out : w.out_after ≡ w.out
+  pub steps : w.steps_after ≤ w.steps + w.base.count
 
-pub record RunsOpen (fills : List (List ℕ) → ℕ → ℕ → Type 0) (limit : ℕ) (task : Task) (c : Config) (text : List ℕ) (keys : List RootKeys) (input after : Option (List ℕ)) (before now : Outside) (rests : Type 0) (doubts : List ℕ → Type 0) (end : Result (Unit {0}) Fault) : Type 0 where
+-- The desk is opened, and the task done, or not to its end.
+pub record RunsOpen {T O P K : Type 0} (fills : List (List ℕ) → ℕ → ℕ → Type 0) (rests : P → Type 0) (doubts : P → List ℕ → Type 0) (limit : ℕ) (task : Task) (c : Config) (text : List ℕ) (w : Work T O (SeenKeeper P) K) (end : End) : Type 0 where
   pub doubted : Option Entry
-  pub serves : Serves fills limit task c text keys input after before now doubted end
-  pub left : Leaves rests doubts doubted
+  pub serves : Serves fills limit task c text w.input.bytes w.input_after.bytes (keeper_before w) (keeper_after w) doubted end
+  pub left : Leaves (rests w.base_after.object) (doubts w.base_after.object) doubted
+  pub steps : w.steps_after ≡ w.steps + w.base.count
+
+-- more than the limit was taken of an input exactly where the end says so, and no more than one byte more ever
+abbrev pub TakesSo : ℕ → Option (List ℕ) → Option (List ℕ) → End → Type 0
+TakesSo limit before now end = (bytes : List ℕ) × Consumes before now bytes × ((end ≡ Err TooMuch) ↔ (limit < length bytes)) × (length bytes ≤ limit + 1)
+
+-- What running a task on the desk of these tables, over a keeper, comes to.
+pub record RunsTask {T O P K : Type 0} (fills : List (List ℕ) → ℕ → ℕ → Type 0) (holds : P → Image → Type 0) (rests : P → Type 0) (doubts : P → List ℕ → Type 0) (limit : ℕ) (task : Task) (c : Config) (text : List ℕ) (w : Work T O (SeenKeeper P) K) (end : End) : Type 0 where
+  -- how far it came
+  pub came : HasNoKeys w end ⊎ RunsClosed fills holds rests c text w end ⊎ RunsOpen fills rests doubts limit task c text w end
+  -- a fault of an object is one of its own
+  pub read : end ≡ Err InputRead → Rose w.input.faults w.input_after.faults
+  pub write : end ≡ Err Write → Rose w.out.faults w.out_after.faults
+  pub failed : end ≡ Err (Journal stop.Failed) → Rose w.base.faults w.base_after.faults
+  pub takes : TakesSo limit w.input.bytes w.input_after.bytes end
+  -- no count falls, and the keeper never failed for a cause of its own
+  pub input_later : w.input.faults ≤ w.input_after.faults
+  pub out_later : w.out.faults ≤ w.out_after.faults
+  pub later : w.base.faults ≤ w.base_after.faults
+  pub changes : w.base_after.changes ≡ w.base.changes

@@ -106,6 +106,7 @@ fn turn<P: Keeper, E: BlockFn, D: BlockFn, T: Source, O: Sink, K: Clock>(
     ensures input_count { T.faults input.old ≤ T.faults input.new }
     ensures out_count { O.faults out.old ≤ O.faults out.new }
     ensures disk_count { book.old.page.faults ≤ book.new.page.faults }
+    ensures changes { P.changes book.new.page.keeper ≡ P.changes book.old.page.keeper }
 {
     let line = match next_line(alloc, ahead, input)? {
         Heard::Line(line) => line,
@@ -162,6 +163,7 @@ pub(crate) fn answer_lines<P: Keeper, E: BlockFn, D: BlockFn, T: Source, O: Sink
     ensures input_count { T.faults input.old ≤ T.faults input.new }
     ensures out_count { O.faults out.old ≤ O.faults out.new }
     ensures disk_count { book.old.page.faults ≤ book.new.page.faults }
+    ensures changes { P.changes book.new.page.keeper ≡ P.changes book.old.page.keeper }
 {
     let mut ahead = Ahead::with_limit(alloc, limit)?;
     'lines: while turn(alloc, &mut ahead, book, input, out, clock)? {}

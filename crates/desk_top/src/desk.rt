@@ -1,16 +1,13 @@
 //! The desk on its journal: opened on a keeper, with the keys of its tables.
 
-ghost use Rattle.std.specs.Prelude.{◌≡◌, ◌↔◌, ◌+◌, ◌^◌, ◌<◌, ◌≤◌, ◌⊎◌, List, ℕ, length, vec_len};
-ghost use Rattle.std.specs.Prelude.{Err, Ok, IfOk, IsErrOf};
-ghost use Rattle.std.specs.Io.KnownBytes.{Consumes};
-ghost use Rattle.wire_ids.specs.Causes.{Rose};
+ghost use Rattle.std.specs.Prelude.{◌≡◌, ◌+◌, ◌^◌, ◌<◌, ◌≤◌, length, vec_len, Ok, IfOk};
 ghost use Rattle.aes_cmac.specs.Aes.{encrypted, decrypted};
 ghost use Rattle.key_vault.specs.Table.{Serves as ServesKeys, Encrypts, Decrypts, root_key};
 ghost use Rattle.agreements.specs.Walk.{tables_of};
 ghost use Rattle.desk_top.specs.Journals.{TellsBook};
 ghost use Rattle.desk_top.specs.Output.{key_table};
-ghost use Rattle.desk_top.specs.Tasks.{HasRow, RunsClosed, RunsOpen};
-ghost use Rattle.desk_top.specs.declared.fault.Fault.TheVariants as fault;
+ghost use Rattle.desk_top.specs.Runs.{seen, seen_clock, seen_keeper};
+ghost use Rattle.desk_top.specs.Tasks.{HasRow, RunsTask};
 
 use crate::ended::Ended;
 use crate::fault::{Fault, Stop};
@@ -60,43 +57,20 @@ fn with_vault<P: Keeper, E: BlockFn, D: BlockFn, T: Source, O: Sink, K: Clock, G
     requires text { tables_of opened.text ≡ Ok opened.tables }
     requires row { HasRow opened.tables task }
     requires keys { vault ≡ key_table opened.tables }
-    ensures runs { RunsClosed P.fills opened.tables opened.text
+    // What it came to, by how it ended.
+    ensures { RunsTask P.fills P.holds P.rests P.doubts limit task opened.tables opened.text
         (record {
-          clock = K.tells clock.old;
-          written = O.written out.old;
-          records = P.records keeper;
-        })
-        (record {
-          clock = K.tells clock.new;
-          written = O.written out.new;
-          records = P.records result.object;
-        })
-        (P.faults keeper) (P.faults result.object) (P.holds result.object)
-        (input.new ≡ input.old) result.end
-        ⊎ RunsOpen P.fills limit task opened.tables opened.text (key_table opened.tables)
-        (T.left input.old) (T.left input.new)
-        (record {
-          clock = K.tells clock.old;
-          written = O.written out.old;
-          records = P.records keeper;
-        })
-        (record {
-          clock = K.tells clock.new;
-          written = O.written out.new;
-          records = P.records result.object;
-        })
-        (P.rests result.object) (P.doubts result.object) result.end }
-    ensures read { IsErrOf result.end Fault.InputRead
-        → Rose (T.faults input.old) (T.faults input.new) }
-    ensures write { IsErrOf result.end Fault.Write → Rose (O.faults out.old) (O.faults out.new) }
-    ensures disk { IsErrOf result.end (Fault.Journal Stop.Failed)
-        → Rose (P.faults keeper) (P.faults result.object) }
-    ensures too_much { (bytes : List ℕ) × Consumes (T.left input.old) (T.left input.new) bytes
-        × ((result.end ≡ Err fault.TooMuch) ↔ (limit < length bytes))
-        × (length bytes ≤ limit + 1) }
-    ensures input_count { T.faults input.old ≤ T.faults input.new }
-    ensures out_count { O.faults out.old ≤ O.faults out.new }
-    ensures disk_count { P.faults keeper ≤ P.faults result.object }
+          input = seen T.left T.faults input.old;
+          input_after = seen T.left T.faults input.new;
+          out = seen O.written O.faults out.old;
+          out_after = seen O.written O.faults out.new;
+          base = seen_keeper P.records P.faults P.changes P.counted keeper;
+          base_after = seen_keeper P.records P.faults P.changes P.counted result.object;
+          clock = seen_clock K.tells clock.old;
+          clock_after = seen_clock K.tells clock.new;
+          steps = steps.old;
+          steps_after = steps.new;
+        }) result.end }
 {
     let TablesText { tables, text } = opened;
     let now = Moment(clock.now());
@@ -142,43 +116,20 @@ fn with_closures<P: Keeper, E: BlockFn, D: BlockFn, T: Source, O: Sink, K: Clock
     requires encrypts { Encrypts (E.gives encrypt) keys.items }
     requires may_decrypt { ServesKeys (D.may decrypt) (vec_len keys) }
     requires decrypts { Decrypts (D.gives decrypt) keys.items }
-    ensures runs { RunsClosed P.fills opened.tables opened.text
+    // What it came to, by how it ended.
+    ensures { RunsTask P.fills P.holds P.rests P.doubts limit task opened.tables opened.text
         (record {
-          clock = K.tells clock.old;
-          written = O.written out.old;
-          records = P.records keeper;
-        })
-        (record {
-          clock = K.tells clock.new;
-          written = O.written out.new;
-          records = P.records result.object;
-        })
-        (P.faults keeper) (P.faults result.object) (P.holds result.object)
-        (input.new ≡ input.old) result.end
-        ⊎ RunsOpen P.fills limit task opened.tables opened.text (key_table opened.tables)
-        (T.left input.old) (T.left input.new)
-        (record {
-          clock = K.tells clock.old;
-          written = O.written out.old;
-          records = P.records keeper;
-        })
-        (record {
-          clock = K.tells clock.new;
-          written = O.written out.new;
-          records = P.records result.object;
-        })
-        (P.rests result.object) (P.doubts result.object) result.end }
-    ensures read { IsErrOf result.end Fault.InputRead
-        → Rose (T.faults input.old) (T.faults input.new) }
-    ensures write { IsErrOf result.end Fault.Write → Rose (O.faults out.old) (O.faults out.new) }
-    ensures disk { IsErrOf result.end (Fault.Journal Stop.Failed)
-        → Rose (P.faults keeper) (P.faults result.object) }
-    ensures too_much { (bytes : List ℕ) × Consumes (T.left input.old) (T.left input.new) bytes
-        × ((result.end ≡ Err fault.TooMuch) ↔ (limit < length bytes))
-        × (length bytes ≤ limit + 1) }
-    ensures input_count { T.faults input.old ≤ T.faults input.new }
-    ensures out_count { O.faults out.old ≤ O.faults out.new }
-    ensures disk_count { P.faults keeper ≤ P.faults result.object }
+          input = seen T.left T.faults input.old;
+          input_after = seen T.left T.faults input.new;
+          out = seen O.written O.faults out.old;
+          out_after = seen O.written O.faults out.new;
+          base = seen_keeper P.records P.faults P.changes P.counted keeper;
+          base_after = seen_keeper P.records P.faults P.changes P.counted result.object;
+          clock = seen_clock K.tells clock.old;
+          clock_after = seen_clock K.tells clock.new;
+          steps = steps.old;
+          steps_after = steps.new;
+        }) result.end }
 {
     let vault = Vault::new(&keys, encrypt, decrypt);
     drop(keys);
@@ -214,45 +165,20 @@ pub(crate) fn run_desk<P: Keeper, T: Source, O: Sink, K: Clock, G: Ledger>(
     requires rests { P.rests keeper }
     requires text { tables_of opened.text ≡ Ok opened.tables }
     requires row { HasRow opened.tables task }
-    ensures runs { (IsErrOf result.end Fault.Memory × (result.object ≡ keeper)
-        × (input.new ≡ input.old) × (out.new ≡ out.old) × (clock.new ≡ clock.old))
-        ⊎ RunsClosed P.fills opened.tables opened.text
+    // What it came to, by how it ended.
+    ensures { RunsTask P.fills P.holds P.rests P.doubts limit task opened.tables opened.text
         (record {
-          clock = K.tells clock.old;
-          written = O.written out.old;
-          records = P.records keeper;
-        })
-        (record {
-          clock = K.tells clock.new;
-          written = O.written out.new;
-          records = P.records result.object;
-        })
-        (P.faults keeper) (P.faults result.object) (P.holds result.object)
-        (input.new ≡ input.old) result.end
-        ⊎ RunsOpen P.fills limit task opened.tables opened.text (key_table opened.tables)
-        (T.left input.old) (T.left input.new)
-        (record {
-          clock = K.tells clock.old;
-          written = O.written out.old;
-          records = P.records keeper;
-        })
-        (record {
-          clock = K.tells clock.new;
-          written = O.written out.new;
-          records = P.records result.object;
-        })
-        (P.rests result.object) (P.doubts result.object) result.end }
-    ensures read { IsErrOf result.end Fault.InputRead
-        → Rose (T.faults input.old) (T.faults input.new) }
-    ensures write { IsErrOf result.end Fault.Write → Rose (O.faults out.old) (O.faults out.new) }
-    ensures disk { IsErrOf result.end (Fault.Journal Stop.Failed)
-        → Rose (P.faults keeper) (P.faults result.object) }
-    ensures too_much { (bytes : List ℕ) × Consumes (T.left input.old) (T.left input.new) bytes
-        × ((result.end ≡ Err fault.TooMuch) ↔ (limit < length bytes))
-        × (length bytes ≤ limit + 1) }
-    ensures input_count { T.faults input.old ≤ T.faults input.new }
-    ensures out_count { O.faults out.old ≤ O.faults out.new }
-    ensures disk_count { P.faults keeper ≤ P.faults result.object }
+          input = seen T.left T.faults input.old;
+          input_after = seen T.left T.faults input.new;
+          out = seen O.written O.faults out.old;
+          out_after = seen O.written O.faults out.new;
+          base = seen_keeper P.records P.faults P.changes P.counted keeper;
+          base_after = seen_keeper P.records P.faults P.changes P.counted result.object;
+          clock = seen_clock K.tells clock.old;
+          clock_after = seen_clock K.tells clock.new;
+          steps = steps.old;
+          steps_after = steps.new;
+        }) result.end }
 {
     let count = opened.tables.devices().len();
     prove!(count <= 4096);

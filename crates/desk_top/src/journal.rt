@@ -5,8 +5,8 @@ ghost use Rattle.disk_model.specs.Disk.{WhereTold};
 ghost use Rattle.disk_journal.specs.Format.{journal_of};
 ghost use Rattle.keepers.specs.JournalKeepers.{KeeperRests, keeper_changed, keeper_disk};
 ghost use Rattle.keepers.specs.JournalKeepers.{keeper_disk_after, keeper_records};
-ghost use Rattle.desk_top.specs.Journals.{HoldsJournal, LeavesDisk, NotTaken, TellsJournal};
-ghost use Rattle.desk_top.specs.Journals.{records_in};
+ghost use Rattle.desk_top.specs.Journals.{AreJournalsOf, IsOwn, LeavesDisk, NotTaken};
+ghost use Rattle.desk_top.specs.Journals.{TellsJournal};
 
 use crate::fault::{Fault, Stop};
 use crate::last_line::foreign_text;
@@ -41,7 +41,10 @@ pub(crate) fn take_journal<D: Disk>(
     ensures changed { IfOk result (λ k. keeper_changed k ≡ 0) }
     ensures fails { IfErr result (λ h. NotTaken (D.seen disk) (D.faults disk) (D.faults h.object)
         h.fault) }
-    ensures left { IfErr result (λ h. LeavesDisk (D.seen disk) (D.seen h.object) h.fault) }
+    ensures own { IfOk result (λ k. IsOwn (D.seen disk)) }
+    ensures left { IfErr result (λ h. LeavesDisk (D.seen disk) (D.seen h.object)
+        (WhereTold (D.seen disk) (λ c. AreJournalsOf (D.images disk) (D.images h.object)))
+        h.fault) }
     ensures later { IfOk result (λ k. D.faults disk ≤ D.faults (keeper_disk k)) }
     ensures later_err { IfErr result (λ h. D.faults disk ≤ D.faults h.object) }
 {

@@ -4,7 +4,7 @@ ghost use Rattle.wire_ids.specs.declared.eui.Eui.{Eui as Name};
 ghost use Rattle.agreements.specs.LookUps.{device_place};
 ghost use Rattle.agreements.specs.Walk.{tables_of};
 ghost use Rattle.roam_core.specs.Agreement.{AgreeOver};
-ghost use Rattle.desk_top.specs.Courses.{AsksMaybe, IsUnready, TellsNoRow, device_of};
+ghost use Rattle.desk_top.specs.Courses.{AsksMaybe, IsUnready, RunsDesk, TellsNoRow, device_of};
 ghost use Rattle.desk_top.specs.Tasks.{HasRow, HasRowMaybe};
 ghost use Rattle.desk_top.specs.Text.{ReadsText, text_room};
 ghost use Rattle.desk_top.specs.Words.{Spells};
@@ -73,7 +73,22 @@ fn on_disk<T: Source, O: Sink, D: Disk, K: Clock, G: Ledger>(
     disk: D,
     clock: &mut K,
     steps: &mut Steps<G>,
-) -> Ended<D> {
+) -> Ended<D>
+    requires text { tables_of opened.text ≡ Ok opened.tables }
+    requires row { HasRow opened.tables task }
+    ensures { RunsDesk D.images task opened.tables opened.text (record {
+      input = seen T.left T.faults input.old;
+      input_after = seen T.left T.faults input.new;
+      out = seen O.written O.faults out.old;
+      out_after = seen O.written O.faults out.new;
+      base = seen D.seen D.faults disk;
+      base_after = seen D.seen D.faults result.object;
+      clock = seen_clock K.tells clock.old;
+      clock_after = seen_clock K.tells clock.new;
+      steps = steps.old;
+      steps_after = steps.new;
+    }) result.end }
+{
     let keeper = match take_journal(alloc, disk) {
         Ok(keeper) => keeper,
         Err(Held { object, fault }) => {
@@ -136,26 +151,31 @@ fn work<S: Source, T: Source, O: Sink, D: Disk, K: Clock, G: Ledger>(
     clock: &mut K,
     steps: &mut Steps<G>,
 ) -> Ended<D>
-    ensures promises { Promises (record {
+    ensures { Promises D.images (record {
       words = words.now;
       tables = seen S.left S.faults tables.old;
       tables_after = seen S.left S.faults tables.new;
-      input = seen T.left T.faults input.old;
-      input_after = seen T.left T.faults input.new;
-      out = seen O.written O.faults out.old;
-      out_after = seen O.written O.faults out.new;
-      disk = seen D.seen D.faults disk;
-      disk_after = seen D.seen D.faults result.object;
-      clock = seen_clock K.tells clock.old;
-      clock_after = seen_clock K.tells clock.new;
+      work = record {
+        input = seen T.left T.faults input.old;
+        input_after = seen T.left T.faults input.new;
+        out = seen O.written O.faults out.old;
+        out_after = seen O.written O.faults out.new;
+        base = seen D.seen D.faults disk;
+        base_after = seen D.seen D.faults result.object;
+        clock = seen_clock K.tells clock.old;
+        clock_after = seen_clock K.tells clock.new;
+        steps = steps.old;
+        steps_after = steps.new;
+      };
     }) result.end }
-    ensures out_count { O.faults out.old ≤ O.faults out.new }
 {
     match prepare(alloc, words, tables) {
-        Ok((opened, Some(task))) => { on_disk(alloc, task, opened, input, out, disk, clock, steps) }
-        Ok((opened, None)) => Ended {
-            object: disk,
-            end: print_counts(alloc, &opened.tables, out),
+        Ok((opened, asked)) => match asked {
+            Some(task) => on_disk(alloc, task, opened, input, out, disk, clock, steps),
+            None => Ended {
+                object: disk,
+                end: print_counts(alloc, &opened.tables, out),
+            },
         },
         Err(fault) => Ended {
             object: disk,
@@ -205,18 +225,22 @@ pub fn run<S: Source, T: Source, O: Sink, D: Disk, L: Link, K: Clock, G: Ledger>
     steps: &mut Steps<G>,
 ) -> Ran<D>
     // What is promised of each end, its last line and its status: `Promises` and `Ends`.
-    ensures ends { Ends (record {
+    ensures ends { Ends D.images (record {
       words = words.now;
       tables = seen S.left S.faults tables.old;
       tables_after = seen S.left S.faults tables.new;
-      input = seen T.left T.faults input.old;
-      input_after = seen T.left T.faults input.new;
-      out = seen O.written O.faults out.old;
-      out_after = seen O.written O.faults out.new;
-      disk = seen D.seen D.faults disk;
-      disk_after = seen D.seen D.faults result.disks;
-      clock = seen_clock K.tells clock.old;
-      clock_after = seen_clock K.tells clock.new;
+      work = record {
+        input = seen T.left T.faults input.old;
+        input_after = seen T.left T.faults input.new;
+        out = seen O.written O.faults out.old;
+        out_after = seen O.written O.faults out.new;
+        base = seen D.seen D.faults disk;
+        base_after = seen D.seen D.faults result.disks;
+        clock = seen_clock K.tells clock.old;
+        clock_after = seen_clock K.tells clock.new;
+        steps = steps.old;
+        steps_after = steps.new;
+      };
     }) result.status }
 
     // No peer is asked.

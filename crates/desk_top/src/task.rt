@@ -66,6 +66,7 @@ fn set_mark<P: Keeper, E: BlockFn, D: BlockFn>(
     ensures marks { MarksSo (P.is_full book.old.page.keeper) result suspended device now.0
         book.old book.new }
     ensures later { book.old.page.faults ≤ book.new.page.faults }
+    ensures changes { P.changes book.new.page.keeper ≡ P.changes book.old.page.keeper }
 {
     if suspended {
         book.suspend(alloc, device, now)
@@ -104,6 +105,7 @@ fn mark<P: Keeper, E: BlockFn, D: BlockFn, O: Sink, K: Clock>(
         → Rose book.old.page.faults book.new.page.faults }
     ensures out_count { O.faults out.old ≤ O.faults out.new }
     ensures disk_count { book.old.page.faults ≤ book.new.page.faults }
+    ensures changes { P.changes book.new.page.keeper ≡ P.changes book.old.page.keeper }
 {
     book.sound();
     let done = marked_text(alloc, suspended, false, eui)?;
@@ -162,7 +164,10 @@ pub(crate) fn serve<P: Keeper, E: BlockFn, D: BlockFn, T: Source, O: Sink, K: Cl
     ensures input_count { T.faults input.old ≤ T.faults input.new }
     ensures out_count { O.faults out.old ≤ O.faults out.new }
     ensures disk_count { book.old.page.faults ≤ book.new.page.faults }
+    ensures changes { P.changes book.new.page.keeper ≡ P.changes book.old.page.keeper }
+    ensures faults { P.faults book.old.page.keeper ≡ book.old.page.faults }
 {
+    book.sound();
     match task {
         Task::Answer => answer_lines(alloc, limit, book, input, out, clock),
         Task::Mark {

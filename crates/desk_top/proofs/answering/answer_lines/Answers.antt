@@ -1,12 +1,9 @@
-use Rattle.std.proofs.Common.{◌≡◌, ◌≤◌, ◌^◌, Err, Some, ap, arith, refl, ◌∙◌, length, sym}
+use Rattle.std.proofs.Common.{◌≡◌, Err, ap, arith, refl, ◌∙◌}
 use Rattle.std.proofs.lemmas.Result.{err_from_is_err_and}
-use Rattle.line_reader.specs.Ahead.{budget, coming}
+use Rattle.line_reader.specs.Ahead.{coming}
 use Rattle.line_reader.proofs.Hearings.{TakesCount_none, TakesCount_then}
-use Rattle.desk_top.specs.Faults.{StopsLines}
 use Rattle.desk_top.specs.Journals.{Outside}
-use Rattle.desk_top.specs.Turns.{IsUnderWay}
 use Rattle.desk_top.specs.declared.fault.Fault.TheVariants as fault
-use Rattle.desk_top.specs.declared.fault.Stop.{Stop}
 use Rattle.desk_top.proofs.EndLemmas.{answered_err, answered_none, much_under_way, read_under_way, told_most, told_too_much}
 use Rattle.desk_top.proofs.TurnLemmas.{all_under_way, front_under_way, stops_under_way, under_way_first, under_way_then}
 use Rattle.desk_top.proofs.answering.answer_lines.Goals as goal
@@ -73,6 +70,7 @@ lines-preserved g c =
       input_count = omega (arith, c.lines.invariant.input_count, c.turn.ensures.input_count);
       out_count = omega (arith, c.lines.invariant.out_count, c.turn.ensures.out_count);
       disk_count = omega (arith, c.lines.invariant.disk_count, c.turn.ensures.disk_count);
+      changes = c.turn.ensures.changes ∙ c.lines.invariant.changes;
     }
 
 pub returns-clause-too_much : goal.returns-clause-too_much
@@ -97,6 +95,7 @@ lines-init g c =
       input_count = omega arith;
       out_count = omega arith;
       disk_count = omega arith;
+      changes = refl;
     }
 
 pub returns-in_err-ahead-clause-answered : goal.returns-in_err-ahead-clause-answered

@@ -20,6 +20,7 @@ invariant-lines g l =
       input_count : g.T.Source.faults l.fn.input ≤ g.T.Source.faults l.input;
       out_count : g.O.Sink.faults l.fn.out ≤ g.O.Sink.faults l.out;
       disk_count : l.fn.book.page.faults ≤ l.book.page.faults;
+      changes : g.P.Keeper.changes l.book.page.keeper ≡ g.P.Keeper.changes l.fn.book.page.keeper;
     }
 
 abbrev pub decreases-lines : goal.decreases-lines

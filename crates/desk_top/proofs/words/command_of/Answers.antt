@@ -4,4 +4,4 @@ use Rattle.desk_top.proofs.words.command_of.Goals as goal
 
 pub returns-in-None-clause-none : goal.returns-in-None-clause-none
 returns-in-None-clause-none c =
-    none_spelled c.args.words.now (iff_false c.is_check.ensures c.if-is_check.false) (iff_false c.is_answer-then-is_check.ensures c.if-is_answer.false) c.in-None.ensures.none
+    none_spelled c.args.words.now (iff_false c.is_check.ensures c.if-is_check.false) (iff_false c.is_answer.ensures c.if-is_answer.false) c.in-None.ensures.none

@@ -107,8 +107,8 @@ distinct_places rows distinct i d high =
     let key = name (get_or rows i d) in
     let len : i < length (map name rows) = rw (length-map rows name) high in
     let first : position_or_len (λ (r : DeviceRow). name r == key) rows ≡ i = position_or_len_is (λ (r : DeviceRow). name r == key) rows i d (omega (arith, high))
-        (λ k low. rw (named k, named i) (other_before (map name rows) k i (name d) distinct low len))
-        (λ lt. eq-eqb key key refl) in
+    (λ k low. rw (named k, named i) (other_before (map name rows) k i (name d) distinct low len))
+    (λ lt. eq-eqb key key refl) in
     rw (first, lt-ltb i (length rows) high) refl
 
 pub lines_go_on : LinesGoOn

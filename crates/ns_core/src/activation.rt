@@ -38,16 +38,17 @@ fn accept_members<E: BlockFn, D: BlockFn>(
 {
     let row = step.row;
     let seed = step.step.seed;
+    let session_key_id = SessionKeyId {
+        dev_eui: row.dev_eui,
+        join_nonce: seed.nonce,
+    };
     let accept = accept_bytes(vault, step.number, &home_accept(up, row, seed, own));
     let phy_payload = Text::of_slice(alloc, accept.as_slice())?;
     Ok(UplinkAnswer {
         dev_eui: row.dev_eui,
         f_cnt_up: None,
         phy_payload: Some(phy_payload),
-        session_key_id: Some(SessionKeyId {
-            dev_eui: row.dev_eui,
-            join_nonce: seed.nonce,
-        }),
+        session_key_id: Some(session_key_id),
     })
 }
 

@@ -7,7 +7,6 @@ use Rattle.entry_codec.specs.Machine.{Machine, lapse}
 use Rattle.entry_codec.specs.declared.device.Device.{Device}
 use Rattle.join_frames.specs.declared.join_up.JoinUp.{JoinUp}
 use Rattle.join_frames.specs.declared.join_up.JoinUp.TheVariants.{Join, Rejoin02, Rejoin1}
-use Rattle.wire_ids.specs.Rules.{Rule}
 use Rattle.js_core.specs.Found.{Found}
 use Rattle.js_core.specs.Frames.{dev_eui_of}
 use Rattle.js_core.specs.declared.home.HomeStep.{HomeStep}

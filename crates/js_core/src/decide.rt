@@ -5,6 +5,7 @@ ghost use Rattle.wire_ids.specs.Rules.{first_rule};
 ghost use Rattle.key_vault.specs.Table.{app_at, nwk_at};
 ghost use Rattle.entitlement.specs.Keys.{entries_of};
 ghost use Rattle.entry_codec.specs.Machine.{lapse};
+ghost use Rattle.backend_json.specs.declared.refusal.Refusal.TheVariants.{«Type» as wrong_type};
 ghost use Rattle.js_core.specs.Found.{found_of};
 ghost use Rattle.js_core.specs.Replies.{accept_of, answer_kind, app_s_key_answer};
 ghost use Rattle.js_core.specs.Replies.{app_s_key_success_at, entries_for, home_ns_success_at};
@@ -207,41 +208,48 @@ fn app_s_key_decision<'a, E: BlockFn, D: BlockFn>(
     state: &State,
     head: Head,
     request: &AppSKeyRequest,
-) -> JsDecision<'a>
+) -> Result<JsDecision<'a>, Memory>
     requires keys { length vault.now ≡ length tables.now.devices }
-    ensures { result ≡ by_rules (refuses head) (app_s_key_rules_at head request.now
+    ensures { IfOk result (λ d. d ≡ by_rules (refuses head) (app_s_key_rules_at head request.now
         (found_of tables.now state.now.now request.now.dev_eui))
         (app_s_key_success_at tables.now (app_at vault.now) head request.now
-        (found_of tables.now state.now.now request.now.dev_eui)) }
+        (found_of tables.now state.now.now request.now.dev_eui))) }
 {
     match app_s_key_target(tables, state, &head, request) {
-        Err(refusal) => Decision::Reply(refused(head, refusal)),
+        Err(refusal) => Ok(Decision::Reply(refused(head, refusal))),
         Ok((found, kept)) => {
             let number = found.number;
             let row = found.row;
             let answer = app_s_key_answer(tables, vault, head, request, number, row, &kept.seed);
-            Decision::Reply(answer)
+            Ok(Decision::Reply(answer))
         }
     }
 }
 
 // What a HomeNSReq comes to.
-fn home_ns_decision(
+fn home_ns_decision<'a>(
     tables: &Tables,
     state: &State,
     head: Head,
     request: &HomeNsRequest,
-) -> JsDecision<'static>
-    ensures { result ≡ by_rules (refuses head)
+) -> Result<JsDecision<'a>, Memory>
+    ensures { IfOk result (λ d. d ≡ by_rules (refuses head)
         (home_ns_rules_at (found_of tables.now state.now.now request.now.dev_eui))
-        (home_ns_success_at head (found_of tables.now state.now.now request.now.dev_eui)) }
+        (home_ns_success_at head (found_of tables.now state.now.now request.now.dev_eui))) }
 {
     let Some(found) = find(tables, state, request.dev_eui) else {
-        return Decision::Reply(refused(head, Refusal::Device));
+        return Ok(Decision::Reply(refused(head, Refusal::Device)));
     };
     let h_net_id = found.row.home;
     let outcome = Outcome::HomeNSAns(HomeNsAnswer { h_net_id });
-    Decision::Reply(Answer::Headed { head, outcome })
+    Ok(Decision::Reply(Answer::Headed { head, outcome }))
+}
+
+// What a request comes to that isn't a join server's.
+fn other_decision<'a>(head: Head) -> Result<JsDecision<'a>, Memory>
+    ensures { IfOk result (λ d. d ≡ refuses head wrong_type) }
+{
+    Ok(Decision::Reply(refused(head, Refusal::Type)))
 }
 
 // ---- all requests
@@ -253,24 +261,16 @@ fn decide<'a, E: BlockFn, D: BlockFn>(
     tables: &'a Tables,
     vault: &Vault<E, D>,
     state: &State,
-    message: Message,
+    head: Head,
+    request: &Request,
 ) -> Result<JsDecision<'a>, Memory>
     requires keys { length vault.now ≡ length tables.now.devices }
     ensures { IfOk result (λ d. d ≡ js_decided tables.now (nwk_at vault.now) (app_at vault.now)
-        state.now.now message.head message.request) }
+        state.now.now head request.now) }
 {
-    let Message { head, request } = message;
     match request {
         Request::JoinReq(request) => {
-            join_decision(
-                alloc,
-                tables,
-                vault,
-                state,
-                Activation::Join,
-                head,
-                &request,
-            )
+            join_decision(alloc, tables, vault, state, Activation::Join, head, request)
         }
         Request::RejoinReq(request) => {
             join_decision(
@@ -280,16 +280,13 @@ fn decide<'a, E: BlockFn, D: BlockFn>(
                 state,
                 Activation::Rejoin,
                 head,
-                &request,
+                request,
             )
         }
-        Request::AppSKeyReq(request) => {
-            Ok(app_s_key_decision(tables, vault, state, head, &request))
-        }
-        Request::HomeNSReq(request) => Ok(home_ns_decision(tables, state, head, &request)),
-        Request::UplinkReq(_) | Request::Unknown => {
-            Ok(Decision::Reply(refused(head, Refusal::Type)))
-        }
+        Request::AppSKeyReq(request) => { app_s_key_decision(tables, vault, state, head, request) }
+        Request::HomeNSReq(request) => home_ns_decision(tables, state, head, request),
+        Request::UplinkReq(_) => other_decision(head),
+        Request::Unknown => other_decision(head),
     }
 }
 
@@ -310,5 +307,6 @@ pub fn js_decide<'a, E: BlockFn, D: BlockFn>(
         (lapse now.0 state.now.now) message.head message.request) }
 {
     let _ = now;
-    decide(alloc, tables, vault, state, message)
+    let Message { head, request } = message;
+    decide(alloc, tables, vault, state, head, &request)
 }

@@ -53,7 +53,7 @@ fn accept_members<E: BlockFn, D: BlockFn>(
 }
 
 /// What a join- or rejoin-request comes to whose size is one of its type.
-pub(crate) fn activation_decision<E: BlockFn, D: BlockFn>(
+pub(crate) fn activation_decision<'a, E: BlockFn, D: BlockFn>(
     alloc: Global,
     tables: &Tables,
     vault: &Vault<E, D>,
@@ -62,7 +62,7 @@ pub(crate) fn activation_decision<E: BlockFn, D: BlockFn>(
     request: &UplinkRequest,
     up: &JoinUp,
     now: Moment,
-) -> Result<JsDecision<'static>, Memory>
+) -> Result<JsDecision<'a>, Memory>
     requires keys { length vault.now ≡ length tables.now.devices }
     requires size { length request.now.phy_payload ≡ frame_size up.now }
     requires sized { wrong_size request.now.phy_payload ≡ false }

@@ -7,7 +7,6 @@ ghost use Rattle.entry_codec.specs.LookUps.{is_asked};
 ghost use Rattle.entry_codec.specs.Machine.{lapse};
 ghost use Rattle.key_vault.specs.Table.{app_at, nwk_at};
 ghost use Rattle.backend_json.specs.declared.head.Head as heads;
-ghost use Rattle.ns_core.specs.Replies.{ns_decided};
 ghost use Rattle.roam_core.specs.Decided.{by_part, decided, entry_in, is_heard, judged_at};
 ghost use Rattle.roam_core.specs.Decided.{with_entry};
 ghost use Rattle.roam_core.specs.Desk.{desk_of};
@@ -109,28 +108,6 @@ fn is_heard(request: &Request) -> bool
     }
 }
 
-// What the home network makes of a request; its answer borrows nothing of the tables.
-fn heard_part<'a, E: BlockFn, D: BlockFn>(
-    alloc: Global,
-    tables: &Tables,
-    vault: &Vault<E, D>,
-    state: &State,
-    message: Message,
-    now: Moment,
-) -> Result<JsDecision<'a>, Memory>
-    requires keys { length vault.now ≡ length tables.now.devices }
-    ensures { IfOk result (λ d. d ≡ ns_decided tables.now (nwk_at vault.now)
-        (lapse now.0 state.now.now) message.head message.request) }
-{
-    let decision = ns_decide(alloc, tables, vault, state, message, now)?;
-    match decision {
-        Decision::Repeat(text) => Ok(Decision::Repeat(text)),
-        Decision::Reply(answer) => Ok(Decision::Reply(answer)),
-        Decision::Accept(answer, change) => Ok(Decision::Accept(answer, change)),
-        Decision::AskPeer(_, question, _) => match question {},
-    }
-}
-
 // What the home network makes of a request of a gateway, and the join server of any other.
 fn by_part<'a, E: BlockFn, D: BlockFn>(
     alloc: Global,
@@ -145,7 +122,7 @@ fn by_part<'a, E: BlockFn, D: BlockFn>(
         (lapse now.0 state.now.now) message.head message.request) }
 {
     if is_heard(&message.request) {
-        return heard_part(alloc, tables, vault, state, message, now);
+        return ns_decide(alloc, tables, vault, state, message, now);
     }
     js_decide(alloc, tables, vault, state, message, now)
 }

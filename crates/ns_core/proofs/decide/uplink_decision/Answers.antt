@@ -14,7 +14,7 @@ use Rattle.ns_core.proofs.decide.uplink_decision.Goals as goal
 pub returns-then-wrong_size : goal.returns-then-wrong_size
 returns-then-wrong_size g c =
     let wrong = subst (λ (frame : List ℕ). wrong_size frame ≡ true) c.as_slice-frame.ensures (sym c.wrong_size.ensures ∙ c.if-wrong_size.true) in
-    rw c.refused.ensures (size_said c.args.tables.now (nwk_at c.args.vault.now) (lapse c.args.now.0 c.args.state.now.now) c.args.head c.args.request.now wrong)
+    IfOk-weaker c.refusal_decision.result _ _ (λ d h. h ∙ size_said c.args.tables.now (nwk_at c.args.vault.now) (lapse c.args.now.0 c.args.state.now.now) c.args.head c.args.request.now wrong) c.refusal_decision.ensures
 
 pub returns-in-Some : goal.returns-in-Some
 returns-in-Some g c =
@@ -45,4 +45,4 @@ returns-in-None g c =
     let sized = subst (λ (frame : List ℕ). wrong_size frame ≡ false) c.as_slice-frame.ensures (sym c.wrong_size.ensures ∙ c.if-wrong_size.false) in
     let none = subst (λ (frame : List ℕ). join_up_of frame ≡ None) c.as_slice-frame.ensures (sym c.in_default.ensures.fields) in
     let other = subst (λ (frame : List ℕ). is_data frame ≡ false) c.as_slice-frame.ensures (sym c.in-None.ensures.form) in
-    rw c.refused-in-None.ensures (frame_said c.args.tables.now (nwk_at c.args.vault.now) (lapse c.args.now.0 c.args.state.now.now) c.args.head c.args.request.now sized none other)
+    IfOk-weaker c.refusal_decision-in-None.result _ _ (λ d h. h ∙ frame_said c.args.tables.now (nwk_at c.args.vault.now) (lapse c.args.now.0 c.args.state.now.now) c.args.head c.args.request.now sized none other) c.refusal_decision-in-None.ensures

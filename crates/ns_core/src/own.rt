@@ -91,7 +91,7 @@ fn own_address(tables: &Tables, state: &State, step: &HomeStep<'_>, now: Moment)
 }
 
 /// The context that the desk gives the device of a step, and None where no address is left.
-#[tactic(auto, unfolding(crate::specs::Own::own_context), using(crate::proofs::Lapsing::radio_lapsed))]
+#[tactic(auto, unfolding(crate::specs::Own::own_context), using(crate::proofs::Lapsing::radio_at))]
 pub(crate) fn own_context(
     tables: &Tables,
     state: &State,

@@ -1,5 +1,5 @@
 -- A request of a gateway comes to a refusal, to a session that begins, to a duplicate's answer, or to an uplink that counts.
-use Rattle.std.proofs.Common.{◌≡◌, ℕ, Bool, true, false, cond, not, List, Option, Some, None, refl, sym, ap, ◌∙◌, subst}
+use Rattle.std.proofs.Common.{◌≡◌, ℕ, Bool, true, false, cond, not, List, Option, Some, None, refl}
 use Rattle.wire_ids.specs.Rules.{Rule, first_rule}
 use Rattle.wire_ids.proofs.Decisions.{none_holds}
 use Rattle.wire_ids.specs.declared.decision.Decision.TheVariants as decision

@@ -1,20 +1,19 @@
 -- An uplink's full counter and channel are the least that fit.
-use Rattle.std.proofs.Common.{◌≡◌, ℕ, ◌+◌, ◌-◌, ◌%◌, ◌<◌, ◌≤◌, ◌^◌, Bool, true, false, List, Option, Some, None, option_map, refl, sym, ap, ◌∙◌, subst, arith, eqb-true, eq-eqb}
-use Rattle.std.specs.Prelude.{◌&&◌, ◌==◌, IfNone, IfSome}
+use Rattle.std.proofs.Common.{◌≡◌, ℕ, ◌-◌, ◌%◌, ◌<◌, ◌≤◌, ◌^◌, Bool, true, false, List, Option, Some, None, option_map, refl, sym, ap, ◌∙◌, subst, arith, eqb-true, eq-eqb}
+use Rattle.std.specs.Prelude.{◌&&◌, IfNone, IfSome}
 use Rattle.std.specs.Str.{bytes_eq}
 use Rattle.std.proofs.lemmas.Slice.Eq.{bytes_eq-Decides}
 use Rattle.wire_ids.specs.declared.keys.SessionKeys.{SessionKeys}
 use Rattle.contexts.specs.declared.context.Context.{Context}
 use Rattle.data_frames.specs.Counts.{IsAbove, IsFullCount, MayCount}
-use Rattle.data_frames.specs.DataForms.{DataForm, fields_of}
-use Rattle.data_frames.specs.Mics.{Fits, HasUpMic, IsChannel, IsEnabled, up_mic, without_mic}
+use Rattle.data_frames.specs.DataForms.{fields_of}
+use Rattle.data_frames.specs.Mics.{Fits, IsChannel, up_mic, without_mic}
 use Rattle.data_frames.specs.declared.uplink.DataUp.{DataUp}
 use Rattle.data_frames.proofs.Halves.{enabled_low}
-use Rattle.ns_core.specs.Frames.{HasFields, acks, addr_of, mic_of, wire_of}
-use Rattle.ns_core.specs.Least.{least_from}
-use Rattle.ns_core.specs.Valid.{IsValid, UplinksAreValid, ValidUplinks, channel_of, conf_of, counted, first_count, fits_on, full_count, has_mic, is_enabled, sends, up_valid, valid_at}
+use Rattle.ns_core.specs.Frames.{HasFields, acks, wire_of}
+use Rattle.ns_core.specs.Valid.{IsValid, ValidUplinks, channel_of, conf_of, counted, first_count, fits_on, full_count, has_mic, sends, up_valid, valid_at}
 use Rattle.ns_core.specs.declared.valid.Count.{Count}
-use Rattle.ns_core.proofs.Least.{IsFound, IsLeast, found, least_is, none_is}
+use Rattle.ns_core.proofs.Least.{IsLeast, found, least_is, none_is}
 use Rattle.ns_core.proofs.Reading.{data_read}
 
 -- ---- the counter

@@ -1,13 +1,12 @@
 -- What decides of a data uplink's bytes is what its data form tells.
-use Rattle.std.proofs.Common.{◌≡◌, ℕ, ◌+◌, ◌-◌, ◌*◌, ◌/◌, ◌%◌, ◌<◌, ◌≤◌, ◌^◌, Bool, true, false, eqb, List, ◌++◌, length, take, drop, slice_index_or, Option, Some, None, is_none, refl, sym, ap, ◌∙◌, arith, length-append}
+use Rattle.std.proofs.Common.{◌≡◌, ℕ, ◌+◌, ◌-◌, ◌*◌, ◌/◌, ◌%◌, ◌<◌, ◌≤◌, ◌^◌, Bool, true, false, eqb, List, ◌++◌, length, Option, Some, None, is_none, refl, ap, ◌∙◌, arith, length-append}
 use Rattle.std.proofs.lemmas.List.{drop_at}
 use Rattle.std.proofs.lemmas.Nat.{from_le_bytes-to_le_bytes_2, from_le_bytes-to_le_bytes_4}
-use Rattle.std.specs.Int.{w16, w32, from_le_bytes}
 use Rattle.wire_ids.specs.declared.address.DevAddr.{DevAddr}
 use Rattle.wire_ids.specs.declared.faults.FrameFault.{FrameFault}
-use Rattle.data_frames.specs.DataForms.{DataForm, Uplink, bit, data_fault, up_fctrl, up_message}
+use Rattle.data_frames.specs.DataForms.{Uplink, bit, data_fault, up_message}
 use Rattle.data_frames.proofs.Spelling.{form_has_no_fault}
-use Rattle.ns_core.specs.Frames.{DataFramesRead, HasFields, acks, addr_of, is_data, mic_of, wire_of}
+use Rattle.ns_core.specs.Frames.{DataFramesRead, acks, addr_of, is_data, mic_of, wire_of}
 
 abbrev dev_addr : ℕ → DevAddr
 dev_addr n = record { 0 = n }

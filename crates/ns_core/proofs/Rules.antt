@@ -1,11 +1,9 @@
 -- What an UplinkReq comes to, case by case.
-use Rattle.std.proofs.Common.{◌≡◌, ℕ, Bool, true, false, cond, List, [], ◌∷◌, ◌++◌, Option, Some, None, is_some, is_none, refl, sym, ap, ◌∙◌, subst}
+use Rattle.std.proofs.Common.{◌≡◌, ℕ, Bool, true, false, cond, List, [], ◌∷◌, ◌++◌, Option, Some, None, is_none, refl, sym, ap, ◌∙◌}
 use Rattle.wire_ids.specs.Rules.{Rule, first_rule}
 use Rattle.wire_ids.specs.declared.decision.Decision.TheVariants as decision
 use Rattle.agreements.specs.Walk.{Config}
 use Rattle.backend_json.specs.Refusals.{row_of}
-use Rattle.backend_json.specs.declared.answer.Answer.TheVariants.{Headed}
-use Rattle.backend_json.specs.declared.answer.Outcome.TheVariants.{UplinkAns}
 use Rattle.backend_json.specs.declared.head.Head.{Head}
 use Rattle.backend_json.specs.declared.refusal.Refusal.{Refusal}
 use Rattle.backend_json.specs.declared.refusal.Refusal.TheVariants as cause
@@ -18,13 +16,13 @@ use Rattle.js_core.specs.Frames.{join_up_of, wrong_size}
 use Rattle.js_core.specs.Home.{home_rules_at, sender_found}
 use Rattle.js_core.specs.Replies.{JsDecision, refuses}
 use Rattle.js_core.specs.Rules.{by_rules}
-use Rattle.js_core.specs.Steps.{change_of, step_of}
+use Rattle.js_core.specs.Steps.{step_of}
 use Rattle.js_core.specs.declared.step.JoinStep.{JoinStep}
 use Rattle.js_core.proofs.Causes.{first_said, none_said}
 use Rattle.ns_core.specs.Frames.{addr_of, is_data}
 use Rattle.ns_core.specs.Heard.{Heard, Join, Data, Neither, heard_by, heard_of}
 use Rattle.ns_core.specs.Own.{own_context}
-use Rattle.ns_core.specs.Replies.{accept_members, activated_with, counted_with, heard_answer, success_at, up_of, uplink_decided, uplink_success}
+use Rattle.ns_core.specs.Replies.{activated_with, counted_with, heard_answer, success_at, uplink_decided, uplink_success}
 use Rattle.ns_core.specs.Rules.{CausesAscend, no_address, uplink_rules, uplink_rules_at}
 use Rattle.ns_core.specs.Speakers.{Speaker, count_of, is_duplicate, speaker_of}
 use Rattle.ns_core.specs.declared.valid.Count.{Count}

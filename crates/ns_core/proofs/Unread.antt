@@ -1,5 +1,5 @@
 -- The home network doesn't look at the AppKeys in the rows of its tables.
-use Rattle.std.proofs.Common.{◌≡◌, ℕ, Bool, true, false, cond, List, map, Option, Some, None, option_map, slice_get, refl, sym, ap, ◌∙◌}
+use Rattle.std.proofs.Common.{◌≡◌, ℕ, Bool, true, false, cond, List, Option, Some, None, option_map, slice_get, refl, sym, ap, ◌∙◌}
 use Rattle.std.proofs.lemmas.Option.{slice_get-map}
 use Rattle.wire_ids.specs.declared.address.DevAddr.{DevAddr}
 use Rattle.wire_ids.specs.declared.eui.Eui.{Eui}
@@ -19,7 +19,6 @@ use Rattle.join_frames.specs.declared.join_up.JoinUp.{JoinUp}
 use Rattle.join_frames.specs.declared.join_up.JoinUp.TheVariants as up
 use Rattle.js_core.specs.Found.{Found}
 use Rattle.js_core.specs.Frames.{dev_eui_of, join_up_of}
-use Rattle.js_core.specs.Home.{sender_found}
 use Rattle.js_core.specs.Replies.{JsDecision, refuses}
 use Rattle.js_core.specs.Rules.{by_rules}
 use Rattle.js_core.specs.Steps.{used_seed}

@@ -1,5 +1,5 @@
 -- What decides of a data uplink's bytes (LoRaWAN 1.1, 4.3). Numbers are little-endian.
-use Rattle.std.specs.Prelude.{◌≡◌, ℕ, ◌-◌, ◌/◌, ◌%◌, ◌==◌, List, length, take, drop, slice_index, Bool, true, false, is_none}
+use Rattle.std.specs.Prelude.{◌≡◌, ℕ, ◌-◌, ◌/◌, ◌%◌, ◌==◌, List, length, take, drop, slice_index, Bool, true, is_none}
 use Rattle.std.specs.Int.{w16, w32, from_le_bytes}
 use Rattle.wire_ids.specs.declared.address.DevAddr.{DevAddr}
 use Rattle.data_frames.specs.DataForms.{DataForm, Uplink, data_fault}

@@ -1,5 +1,5 @@
 -- The context that the desk gives a device at home here: its address and its radio parameters.
-use Rattle.std.specs.Prelude.{ℕ, List, slice_get, Option, Some, None, option_map, if◌then◌else◌}
+use Rattle.std.specs.Prelude.{ℕ, slice_get, Option, Some, None, option_map, if◌then◌else◌}
 use Rattle.wire_ids.specs.declared.radio.Radio.{Radio}
 use Rattle.contexts.specs.declared.context.Context.{Context}
 use Rattle.contexts.specs.declared.slots.Slots.{Slots}

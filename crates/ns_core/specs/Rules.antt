@@ -1,5 +1,5 @@
 -- The rules by which an UplinkReq is refused, in their order: the first that holds gives the answer.
-use Rattle.std.specs.Prelude.{◌≡◌, ℕ, List, [], ◌∷◌, Option, Some, None, Bool, true, false, is_none}
+use Rattle.std.specs.Prelude.{◌≡◌, ℕ, List, [], ◌∷◌, Some, Bool, true, false, is_none}
 use Rattle.wire_ids.specs.Lists.{holds_of}
 use Rattle.wire_ids.specs.Rules.{Rule}
 use Rattle.agreements.specs.Walk.{Config}

@@ -38,21 +38,22 @@ fn accept_members<E: BlockFn, D: BlockFn>(
 {
     let row = step.row;
     let seed = step.step.seed;
+    let session_key_id = SessionKeyId {
+        dev_eui: row.dev_eui,
+        join_nonce: seed.nonce,
+    };
     let accept = accept_bytes(vault, step.number, &home_accept(up, row, seed, own));
     let phy_payload = Text::of_slice(alloc, accept.as_slice())?;
     Ok(UplinkAnswer {
         dev_eui: row.dev_eui,
         f_cnt_up: None,
         phy_payload: Some(phy_payload),
-        session_key_id: Some(SessionKeyId {
-            dev_eui: row.dev_eui,
-            join_nonce: seed.nonce,
-        }),
+        session_key_id: Some(session_key_id),
     })
 }
 
 /// What a join- or rejoin-request comes to whose size is one of its type.
-pub(crate) fn activation_decision<E: BlockFn, D: BlockFn>(
+pub(crate) fn activation_decision<'a, E: BlockFn, D: BlockFn>(
     alloc: Global,
     tables: &Tables,
     vault: &Vault<E, D>,
@@ -61,7 +62,7 @@ pub(crate) fn activation_decision<E: BlockFn, D: BlockFn>(
     request: &UplinkRequest,
     up: &JoinUp,
     now: Moment,
-) -> Result<JsDecision<'static>, Memory>
+) -> Result<JsDecision<'a>, Memory>
     requires keys { length vault.now ≡ length tables.now.devices }
     requires size { length request.now.phy_payload ≡ frame_size up.now }
     requires sized { wrong_size request.now.phy_payload ≡ false }

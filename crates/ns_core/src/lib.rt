@@ -11,3 +11,4 @@ mod uplink;
 mod valid;
 
 pub use decide::ns_decide;
+pub use valid::Count;

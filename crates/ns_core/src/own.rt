@@ -38,16 +38,13 @@ fn radio_in(kept: &KeptSeed, slot: &Option<Context>, radio: Radio) -> Radio
         Origin::Seeded(own)
             if own.nonce.get() == kept.seed.nonce.get()
                 && own.join_eui.0 == kept.seed.join_eui.0
-                && own.counter == kept.seed.counter =>
-        {
-            context.radio
-        }
+                && own.counter == kept.seed.counter => { context.radio }
         _ => radio,
     }
 }
 
 fn radio_under(slots: &Slots, radio: Radio, kept: Option<&KeptSeed>) -> Radio
-    ensures { result ≡ radio_under slots.now radio (option_copied kept) }
+    ensures { result ≡ radio_under slots.now radio (option_copied kept.entry) }
 {
     match kept {
         None => radio,
@@ -73,7 +70,7 @@ fn radio_by(used: &Option<UsedSeed>, device: &Device, radio: Radio) -> Radio
 // ---- the address
 
 // Whose pending context becomes active first, since its seed was used.
-#[tactic(auto, using(crate::proofs::Own::uses_lapsed))]
+#[tactic(auto, using(crate::proofs::Lapsing::uses_lapsed))]
 fn waking(step: &HomeStep<'_>) -> Option<Holder>
     ensures { (at : ℕ) → result ≡ waking step.now.step.used (home_found at step.now) }
 {
@@ -85,12 +82,7 @@ fn waking(step: &HomeStep<'_>) -> Option<Holder>
 
 // The least free address of the desk's network.
 #[tactic(auto, unfolding(crate::specs::Own::own_address))]
-fn own_address(
-    tables: &Tables,
-    state: &State,
-    step: &HomeStep<'_>,
-    now: Moment,
-) -> Option<DevAddr>
+fn own_address(tables: &Tables, state: &State, step: &HomeStep<'_>, now: Moment) -> Option<DevAddr>
     ensures { option_map (λ (a : dev_addr.DevAddr). a.0) result
         ≡ own_address tables.now (lapse now.0 state.now.now) step.now.step.used
         (home_found now.0 step.now) }
@@ -99,7 +91,7 @@ fn own_address(
 }
 
 /// The context that the desk gives the device of a step, and None where no address is left.
-#[tactic(auto, unfolding(crate::specs::Own::own_context), using(crate::proofs::Own::radio_lapsed))]
+#[tactic(auto, unfolding(crate::specs::Own::own_context), using(crate::proofs::Lapsing::radio_at))]
 pub(crate) fn own_context(
     tables: &Tables,
     state: &State,

@@ -87,7 +87,7 @@ fn up_of(
 }
 
 /// What a data uplink comes to whose size is one of its type.
-pub(crate) fn data_decision<E: BlockFn, D: BlockFn>(
+pub(crate) fn data_decision<'a, E: BlockFn, D: BlockFn>(
     alloc: Global,
     tables: &Tables,
     vault: &Vault<E, D>,
@@ -96,7 +96,7 @@ pub(crate) fn data_decision<E: BlockFn, D: BlockFn>(
     request: &UplinkRequest,
     up: &DataUp<'_>,
     now: Moment,
-) -> Result<JsDecision<'static>, Memory>
+) -> Result<JsDecision<'a>, Memory>
     requires keys { length vault.now ≡ length tables.now.devices }
     requires fields { HasFields request.now.phy_payload (fields_of up.now) }
     requires whole { up.now.whole.now ≡ request.now.phy_payload }

@@ -11,7 +11,7 @@ use wire_ids::SessionKeys;
 
 /// The full counter of an uplink, and its channel.
 #[derive(Clone, Copy)]
-pub(crate) struct Count {
+pub struct Count {
     pub count: u32,
     pub channel: u8,
 }

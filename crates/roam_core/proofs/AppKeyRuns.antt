@@ -1,8 +1,7 @@
 -- Two desks whose tables differ in one AppKey give alike answers, kept ones too.
-use Rattle.std.proofs.Common.{◌≡◌, ℕ, zero, suc, ◌==◌, List, [], ◌∷◌, map, take, drop, Bool, true, false, cond, not, is_some, Option, Some, None, option_map, Result, Ok, Err, refl, sym, ap, ◌∙◌, subst}
+use Rattle.std.proofs.Common.{◌≡◌, ℕ, zero, suc, List, [], ◌∷◌, map, take, drop, Bool, true, false, cond, not, Option, Some, None, option_map, Result, Ok, Err, refl, sym, ap, ◌∙◌, subst}
 use Rattle.std.specs.List.{AllZip}
-use Rattle.std.specs.Prelude.{find, option_and_then, position, slice_get}
-use Rattle.wire_ids.specs.Decisions.{entry_of}
+use Rattle.std.specs.Prelude.{find, option_and_then, position}
 use Rattle.wire_ids.specs.Lists.{changed, changed_there}
 use Rattle.wire_ids.proofs.Lists.{changed-cons}
 use Rattle.wire_ids.specs.declared.decision.Decision.TheVariants as decision
@@ -14,7 +13,6 @@ use Rattle.wire_ids.specs.declared.party.Sender.TheVariants.{Network, Party}
 use Rattle.key_vault.specs.Table.{app_at, nwk_at}
 use Rattle.agreements.specs.LookUps.{keys_of}
 use Rattle.agreements.specs.Walk.{Config}
-use Rattle.agreements.specs.declared.rows.DeviceRow.{DeviceRow}
 use Rattle.backend_json.specs.Answers.{text_of}
 use Rattle.backend_json.specs.Messages.{message_of}
 use Rattle.backend_json.specs.Types.{receiver_of, sender_of}
@@ -26,13 +24,11 @@ use Rattle.backend_json.specs.declared.answer.Answer.{Answer}
 use Rattle.backend_json.specs.declared.head.Head.{Head}
 use Rattle.backend_json.specs.declared.message.Bad.{Bad}
 use Rattle.backend_json.specs.declared.message.Message.{Message}
-use Rattle.backend_json.specs.declared.refusal.Refusal.{Refusal}
-use Rattle.backend_json.specs.declared.refusal.Refusal.TheVariants.{Sender as NoSender, Receiver, «Type», Asked}
 use Rattle.backend_json.specs.declared.request.Request.{Request}
 use Rattle.backend_json.specs.declared.request.Request.TheVariants.{AppSKeyReq, HomeNSReq, JoinReq, RejoinReq, UplinkReq, Unknown}
 use Rattle.entries.specs.declared.change.Change.{Change}
 use Rattle.entries.specs.declared.entry.Entry.{Entry}
-use Rattle.entry_codec.specs.Empty.{empty, empty_kept, names_of, new_device, no_answers, senders_of}
+use Rattle.entry_codec.specs.Empty.{empty, empty_kept, new_device, no_answers, senders_of}
 use Rattle.entry_codec.specs.Kept.{answer_among, has_body, is_of, keep, kept_answer, with_pair}
 use Rattle.entry_codec.specs.LookUps.{is_asked, is_same_sender}
 use Rattle.entry_codec.specs.Machine.{Machine, after, lapse, on_event, ready, wakes}
@@ -43,7 +39,7 @@ use Rattle.entry_codec.proofs.Names.{position-map}
 use Rattle.js_core.specs.AppKey.{AnswersAlike, row_with_app_key, with_app_key}
 use Rattle.js_core.specs.AppKey as js
 use Rattle.js_core.specs.Parties.{is_known, may_send, reaches}
-use Rattle.js_core.specs.Replies.{JsDecision, js_decided, refuses}
+use Rattle.js_core.specs.Replies.{JsDecision, js_decided}
 use Rattle.js_core.proofs.AppKeys as of_request
 use Rattle.js_core.proofs.Changes.{map-changed}
 use Rattle.js_core.proofs.Unread.{same_bare}
@@ -53,7 +49,7 @@ use Rattle.ns_core.proofs.Unread.{unread}
 use Rattle.roam_core.specs.AppKey.{AppKeyStays, DesksAlike, KeptAlike, PairsAlike, RunsAlike, TextsAlike}
 use Rattle.roam_core.specs.Decided.{by_part, decided, entry_in, judged_at, said, success_of, with_entry}
 use Rattle.roam_core.specs.Desk.{Desk, desk_with, empty_desk}
-use Rattle.roam_core.specs.Lines.{Heard, Reaction, bad_answer, decided_of, line_decided, reaction, reaction_of, text_in}
+use Rattle.roam_core.specs.Lines.{Heard, Reaction, bad_answer, decided_of, line_decided, reaction, reaction_of}
 use Rattle.roam_core.specs.Order.{Line, by_order, order, wrong_receiver, wrong_sender, wrong_type}
 use Rattle.roam_core.proofs.Outcomes.{front, passed}
 use Rattle.roam_core.proofs.Parts.{parts_decide}

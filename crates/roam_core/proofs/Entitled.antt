@@ -1,5 +1,5 @@
 -- Each answer agrees with the entitlement table, and a kept one did when its entry was made.
-use Rattle.std.proofs.Common.{◌≡◌, ℕ, List, [], ◌∷◌, ◌++◌, take, Bool, true, false, cond, Option, Some, None, option_map, Result, Ok, Err, refl, sym, ap, ◌∙◌, subst, append_assoc, append-nil}
+use Rattle.std.proofs.Common.{◌≡◌, ℕ, List, [], ◌∷◌, ◌++◌, Bool, true, false, cond, Option, Some, None, option_map, Result, Ok, Err, refl, sym, ap, ◌∙◌, subst, append_assoc, append-nil}
 use Rattle.std.specs.List.{AllByRecursion}
 use Rattle.std.specs.Prelude.{find, map, option_and_then, position}
 use Rattle.wire_ids.specs.Lists.{changed_there}
@@ -31,7 +31,7 @@ use Rattle.entries.specs.declared.entry.Event.{Event}
 use Rattle.entries.specs.declared.entry.Event.TheVariants as event
 use Rattle.entries.specs.declared.entry.Request as kept_request
 use Rattle.entry_codec.specs.Empty.{empty_kept, no_answers, senders_of}
-use Rattle.entry_codec.specs.Kept.{answer_among, has_body, is_of, keep, kept_answer, kept_by, put_first, with_pair}
+use Rattle.entry_codec.specs.Kept.{answer_among, has_body, is_of, keep, kept_answer, kept_by, with_pair}
 use Rattle.entry_codec.specs.LookUps.{is_asked}
 use Rattle.entry_codec.specs.Machine.{Machine, after, entered, lapse, on_change, on_event, ready, wake, wakes}
 use Rattle.entry_codec.specs.declared.kept.KeptAnswers.{KeptAnswers}
@@ -41,7 +41,7 @@ use Rattle.js_core.specs.Agreement.{AnswerAgrees, KeysAgree}
 use Rattle.js_core.specs.Agreement as js
 use Rattle.js_core.specs.Found.{found_of}
 use Rattle.js_core.specs.Parties.{is_known}
-use Rattle.js_core.specs.Replies.{JsDecision, js_decided, refused}
+use Rattle.js_core.specs.Replies.{JsDecision, js_decided}
 use Rattle.js_core.proofs.Agreeing.{answers_agree}
 use Rattle.js_core.proofs.Cases.{by_cases}
 use Rattle.roam_core.specs.Agreement.{Agrees, AreValid, IsKept, KeptAgree, LinesAgree, WasEntitled}

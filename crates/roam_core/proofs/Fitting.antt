@@ -1,10 +1,9 @@
 -- The entry that a line makes fits.
-use Rattle.std.proofs.Common.{◌≡◌, ◌<◌, ℕ, ◌+◌, ◌==◌, List, length, Bool, true, false, cond, Option, Some, None, get_or, refl, sym, ap, ◌∙◌, subst, arith}
+use Rattle.std.proofs.Common.{◌≡◌, ℕ, List, Bool, true, false, Option, Some, None, refl, sym, ap, ◌∙◌, subst}
 use Rattle.std.specs.List.{list_any}
-use Rattle.std.specs.Prelude.{IsTrue, ◌&&◌, is_none, nat_lt, slice_get}
+use Rattle.std.specs.Prelude.{IsTrue, nat_lt, slice_get}
 use Rattle.wire_ids.specs.Lists.{at_place, holds_of}
 use Rattle.wire_ids.specs.declared.decision.Decision.TheVariants as decision
-use Rattle.wire_ids.specs.declared.keys.RootKeys.{RootKeys}
 use Rattle.wire_ids.specs.declared.party.Sender.{Sender}
 use Rattle.key_vault.specs.Table.{app_at, nwk_at}
 use Rattle.agreements.specs.Walk.{Config}
@@ -14,8 +13,7 @@ use Rattle.backend_json.specs.declared.request.Request.{Request}
 use Rattle.backend_json.specs.declared.request.Request.TheVariants.{AppSKeyReq, HomeNSReq, JoinReq, RejoinReq, UplinkReq, Unknown}
 use Rattle.entries.specs.declared.change.Change.{Change}
 use Rattle.entries.specs.declared.entry.Entry.{Entry}
-use Rattle.entries.specs.declared.entry.Event.TheVariants as event
-use Rattle.entry_codec.specs.Fits.{fits, fits_change, fits_event, is_time, names_there}
+use Rattle.entry_codec.specs.Fits.{fits, fits_change, fits_event, names_there}
 use Rattle.entry_codec.specs.Kept.{kept_answer}
 use Rattle.entry_codec.specs.LookUps.{is_asked, is_same_sender, is_sender}
 use Rattle.entry_codec.specs.Machine.{Machine, change_wakes, lapse, ready, wake, wakes}
@@ -30,7 +28,7 @@ use Rattle.join_frames.specs.declared.join_up.JoinUp.TheVariants.{Join, Rejoin02
 use Rattle.js_core.specs.Found.{Found}
 use Rattle.js_core.specs.Parties.{is_known}
 use Rattle.js_core.specs.Replies.{JsDecision, accepted, js_decided}
-use Rattle.js_core.specs.Steps.{is_not_above, low_counter_at, next_seed, seed_place}
+use Rattle.js_core.specs.Steps.{is_not_above, next_seed, seed_place}
 use Rattle.js_core.specs.declared.activation.Activation.{Activation}
 use Rattle.js_core.proofs.Cases.{IsJoin, by_cases, stands_at}
 use Rattle.ns_core.specs.Replies.{ns_decided}
@@ -38,7 +36,7 @@ use Rattle.ns_core.proofs.Cases as ns
 use Rattle.roam_core.specs.Decided.{by_part, entry_in, judged_at}
 use Rattle.roam_core.specs.Desk.{Desk}
 use Rattle.roam_core.specs.Entering.{CanEnter, EntriesFit}
-use Rattle.roam_core.specs.Lines.{line_decided, reaction}
+use Rattle.roam_core.specs.Lines.{reaction}
 use Rattle.roam_core.proofs.Hearing.{AreNamed, activation_fits, named_lapsed, names_of_state, uplink_fits}
 use Rattle.roam_core.proofs.Outcomes as outcome
 use Rattle.roam_core.proofs.Stepping.{above, next_above, none_valid, used_fits}

@@ -1,10 +1,10 @@
 -- A legal history goes on legally by the entry of each line.
-use Rattle.std.proofs.Common.{◌≡◌, ◌<◌, ℕ, zero, suc, ◌+◌, ◌==◌, List, [], ◌∷◌, ◌++◌, length, map, get_or, true, false, Some, refl, sym, ap, ◌∙◌, subst, arith, eq-eqb, lt-ltb}
+use Rattle.std.proofs.Common.{◌≡◌, ◌<◌, ℕ, zero, suc, ◌+◌, ◌==◌, List, [], ◌∷◌, ◌++◌, length, map, get_or, false, Some, refl, sym, ap, ◌∙◌, subst, arith, eq-eqb, lt-ltb}
 use Rattle.std.proofs.Math.ListN.{get_or-map}
 use Rattle.std.proofs.lemmas.List.{length-map}
 use Rattle.std.proofs.lemmas.List.Sums.{position_or_len_is}
-use Rattle.std.specs.List.{AllByRecursion, IsDistinct, list_any, position_or_len}
-use Rattle.std.specs.Prelude.{IsTrue, nat_lt}
+use Rattle.std.specs.List.{AllByRecursion, IsDistinct, position_or_len}
+use Rattle.std.specs.Prelude.{IsTrue}
 use Rattle.wire_ids.specs.Decisions.{entry_of}
 use Rattle.wire_ids.specs.declared.keys.RootKeys.{RootKeys}
 use Rattle.agreements.specs.LookUps.{AreFound as HasPlaces}
@@ -16,8 +16,7 @@ use Rattle.entries.specs.declared.entry.Entry.{Entry}
 use Rattle.entries.specs.declared.entry.Event.{Event}
 use Rattle.entries.specs.declared.entry.Event.TheVariants as event
 use Rattle.entry_codec.specs.Empty.{empty}
-use Rattle.entry_codec.specs.Fits.{fits, is_time}
-use Rattle.entry_codec.specs.LookUps.{is_same_sender}
+use Rattle.entry_codec.specs.Fits.{fits}
 use Rattle.entry_codec.specs.Machine.{Machine, after, ready}
 use Rattle.entry_codec.specs.Replay.{AllFit, replay}
 use Rattle.entry_codec.specs.Sound.{IsSound}
@@ -26,7 +25,6 @@ use Rattle.entry_codec.proofs.SoundEmpty.{sound-empty}
 use Rattle.entry_codec.proofs.Stays.{stays-event, stays-ready}
 use Rattle.roam_core.specs.Decided.{entry_in}
 use Rattle.roam_core.specs.Desk.{Desk, IsStateOf, desk_after, empty_desk}
-use Rattle.roam_core.specs.Entering.{KnowsSenders}
 use Rattle.roam_core.specs.Legal.{IsFirst, IsLegal, IsStep, LinesGoOn, MayFollow, desk_at, desk_from}
 use Rattle.roam_core.specs.Lines.{line_decided, reaction}
 use Rattle.roam_core.proofs.Fitting.{entries_fit}
@@ -107,8 +105,8 @@ distinct_places rows distinct i d high =
     let key = name (get_or rows i d) in
     let len : i < length (map name rows) = rw (length-map rows name) high in
     let first : position_or_len (λ (r : DeviceRow). name r == key) rows ≡ i = position_or_len_is (λ (r : DeviceRow). name r == key) rows i d (omega (arith, high))
-        (λ k low. rw (named k, named i) (other_before (map name rows) k i (name d) distinct low len))
-        (λ lt. eq-eqb key key refl) in
+    (λ k low. rw (named k, named i) (other_before (map name rows) k i (name d) distinct low len))
+    (λ lt. eq-eqb key key refl) in
     rw (first, lt-ltb i (length rows) high) refl
 
 pub lines_go_on : LinesGoOn

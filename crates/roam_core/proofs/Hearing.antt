@@ -1,18 +1,17 @@
 -- The entry of a gateway's request fits.
-use Rattle.std.proofs.Common.{◌≡◌, ◌<◌, ◌≤◌, ℕ, zero, suc, ◌+◌, ◌==◌, List, [], ◌∷◌, length, map, Bool, true, false, cond, not, ◌||◌, Option, Some, None, option_map, option_and_then, is_some, is_none, refl, sym, ap, ◌∙◌, subst, arith, eqb-true}
+use Rattle.std.proofs.Common.{◌≡◌, ℕ, zero, suc, ◌+◌, ◌==◌, List, [], ◌∷◌, length, map, Bool, true, false, cond, not, ◌||◌, Option, Some, None, option_map, option_and_then, is_some, refl, sym, ap, ◌∙◌, subst, arith, eqb-true}
 use Rattle.std.proofs.lemmas.Option.{get_or_from_slice_get, slice_get_within}
 use Rattle.std.specs.List.{AllByRecursion, list_any}
-use Rattle.std.specs.Prelude.{IsTrue, ◌&&◌, find, nat_le, nat_lt, position, slice_get}
+use Rattle.std.specs.Prelude.{IsTrue, find, nat_le, position, slice_get}
 use Rattle.wire_ids.specs.Addresses.{base_of, room_of}
 use Rattle.wire_ids.specs.Lists.{at_place, holds_of}
 use Rattle.wire_ids.specs.declared.address.DevAddr.{DevAddr}
 use Rattle.wire_ids.specs.declared.eui.Eui.{Eui}
 use Rattle.wire_ids.specs.declared.party.Sender.{Sender}
-use Rattle.contexts.specs.Slots.{activated, woken}
 use Rattle.contexts.specs.declared.context.Context.{Context}
 use Rattle.contexts.specs.declared.slots.Slots.{Slots}
 use Rattle.data_frames.specs.Counts.{IsAbove}
-use Rattle.data_frames.specs.DataForms.{data_fault, is_data_sized}
+use Rattle.data_frames.specs.DataForms.{data_fault}
 use Rattle.agreements.specs.LookUps.{AreFound as HasPlaces}
 use Rattle.agreements.specs.Walk.{Config}
 use Rattle.agreements.specs.declared.rows.DeviceRow.{DeviceRow}
@@ -21,14 +20,14 @@ use Rattle.entries.specs.declared.change.Downlink.TheVariants as down
 use Rattle.entries.specs.declared.change.OwnContext.{OwnContext}
 use Rattle.entries.specs.declared.used_seed.UsedSeed.{UsedSeed}
 use Rattle.entries.specs.declared.used_seed.UsedSeed.TheVariants.{Rejoin0, Rejoin1, Rejoin2}
-use Rattle.entry_codec.specs.Devices.{in_slots, uses_pending}
+use Rattle.entry_codec.specs.Devices.{in_slots}
 use Rattle.entry_codec.specs.Empty.{empty}
-use Rattle.entry_codec.specs.Fits.{can_hear, fits_change, fits_slots, fits_used, is_above, is_there}
+use Rattle.entry_codec.specs.Fits.{fits_change, fits_slots, fits_used, is_above}
 use Rattle.entry_codec.specs.Free.{free_address, free_from, is_number_taken}
 use Rattle.entry_codec.specs.Index.{is_number, device_number, names, row_number}
 use Rattle.entry_codec.specs.LookUps.{at_home, device_slots, is_taken, live_context, slots_of, visitor_of, visitor_slots}
-use Rattle.entry_codec.specs.Machine.{Machine, change_wakes, holder_of, home_or_visitor, is_dev, is_home, is_visitor, lapse, place_of, visitor_named, wake}
-use Rattle.entry_codec.specs.Sound.{AreSlots, IsSound, IsSoundDevice, IsSoundVisitor, has_context}
+use Rattle.entry_codec.specs.Machine.{Machine, change_wakes, holder_of, home_or_visitor, is_home, is_visitor, lapse, place_of, wake}
+use Rattle.entry_codec.specs.Sound.{IsSound, IsSoundDevice, IsSoundVisitor, has_context}
 use Rattle.entry_codec.specs.declared.device.Device.{Device}
 use Rattle.entry_codec.specs.declared.device.KeptSeed.{KeptSeed}
 use Rattle.entry_codec.specs.declared.parties.Holder.{Holder}

@@ -1,6 +1,6 @@
 -- What a line comes to: a refusal, a kept answer, or what its part makes of it.
 use Rattle.std.specs.Prelude.{IfSome}
-use Rattle.std.proofs.Common.{◌≡◌, ℕ, List, [], ◌∷◌, Bool, true, false, not, is_some, Option, Some, None, Result, Ok, Err, refl, sym, ap, ◌∙◌, subst, drop}
+use Rattle.std.proofs.Common.{◌≡◌, ℕ, List, ◌∷◌, Bool, true, false, not, is_some, Option, Some, None, Result, Ok, Err, refl, sym, ap, ◌∙◌, subst, drop}
 use Rattle.wire_ids.specs.Decisions.{entry_of}
 use Rattle.wire_ids.specs.declared.decision.Decision.TheVariants as decision
 use Rattle.wire_ids.specs.declared.keys.RootKeys.{RootKeys}

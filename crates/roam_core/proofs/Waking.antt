@@ -1,5 +1,5 @@
 -- Which contexts a device has isn't looked at.
-use Rattle.std.proofs.Common.{◌≡◌, ℕ, zero, suc, List, [], ◌∷◌, Option, Some, None, option_map, slice_get, refl, sym, ap, ◌∙◌}
+use Rattle.std.proofs.Common.{◌≡◌, ℕ, zero, suc, List, [], ◌∷◌, Option, Some, None, option_map, slice_get, refl, ap, ◌∙◌}
 use Rattle.wire_ids.specs.Lists.{changed}
 use Rattle.wire_ids.proofs.Lists.{changed-cons}
 use Rattle.wire_ids.specs.declared.eui.Eui.{Eui}
@@ -25,7 +25,7 @@ use Rattle.js_core.specs.declared.activation.Activation.TheVariants as by
 use Rattle.js_core.specs.Found.{Found, found_at, found_of, found_with}
 use Rattle.js_core.specs.Frames.{join_up_of}
 use Rattle.js_core.specs.Replies.{JsDecision, app_s_key_success_at, home_ns_success_at, join_success, join_success_at, js_decided, refuses}
-use Rattle.js_core.specs.Rules.{app_s_key_rules_at, by_rules, home_ns_rules_at, join_rules, join_rules_at, rules_of}
+use Rattle.js_core.specs.Rules.{app_s_key_rules_at, by_rules, home_ns_rules_at, join_rules, join_rules_at}
 use Rattle.js_core.specs.Steps.{seed_place}
 
 -- ---- the same device with other contexts

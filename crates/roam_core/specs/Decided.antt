@@ -1,5 +1,5 @@
 -- What a request comes to, from the rule of its sender on.
-use Rattle.std.specs.Prelude.{◌≡◌, ℕ, List, [], Option, None, Bool, false, unwrap_or}
+use Rattle.std.specs.Prelude.{◌≡◌, ℕ, List, [], Option, None, Bool, true, false, unwrap_or, if◌then◌else◌}
 use Rattle.wire_ids.specs.declared.decision.Decision.{Decision}
 use Rattle.wire_ids.specs.declared.decision.Decision.TheVariants as decision
 use Rattle.agreements.specs.Walk.{Config}
@@ -67,14 +67,18 @@ decided c nwk app s head request body now =
 
 -- ---- the parts
 
+-- a gateway sends it
+abbrev pub is_heard : Request → Bool
+is_heard (JoinReq request) = false
+is_heard (RejoinReq request) = false
+is_heard (AppSKeyReq request) = false
+is_heard (HomeNSReq request) = false
+is_heard (UplinkReq request) = true
+is_heard Unknown = false
+
 -- what the home network makes of a request of a gateway, and the join server of any other
 abbrev pub by_part : Config → (ℕ → List ℕ) → (ℕ → List ℕ) → Machine → Head → Request → JsDecision
-by_part c nwk app m head (JoinReq request) = js_decided c nwk app m head (JoinReq request)
-by_part c nwk app m head (RejoinReq request) = js_decided c nwk app m head (RejoinReq request)
-by_part c nwk app m head (AppSKeyReq request) = js_decided c nwk app m head (AppSKeyReq request)
-by_part c nwk app m head (HomeNSReq request) = js_decided c nwk app m head (HomeNSReq request)
-by_part c nwk app m head (UplinkReq request) = ns_decided c nwk m head (UplinkReq request)
-by_part c nwk app m head Unknown = js_decided c nwk app m head Unknown
+by_part c nwk app m head request = if is_heard request then ns_decided c nwk m head request else js_decided c nwk app m head request
 
 -- a request that no line before the frame's size stands against comes to what its part makes of it
 abbrev pub PartsDecide : Type 0

@@ -7,7 +7,8 @@ ghost use Rattle.entry_codec.specs.LookUps.{is_asked};
 ghost use Rattle.entry_codec.specs.Machine.{lapse};
 ghost use Rattle.key_vault.specs.Table.{app_at, nwk_at};
 ghost use Rattle.backend_json.specs.declared.head.Head as heads;
-ghost use Rattle.roam_core.specs.Decided.{by_part, decided, entry_in, judged_at, with_entry};
+ghost use Rattle.roam_core.specs.Decided.{by_part, decided, entry_in, is_heard, judged_at};
+ghost use Rattle.roam_core.specs.Decided.{with_entry};
 ghost use Rattle.roam_core.specs.Desk.{desk_of};
 ghost use Rattle.roam_core.specs.Texts.{HasText, kept_text};
 
@@ -93,6 +94,20 @@ fn with_entry<'a>(
     }
 }
 
+// Whether a gateway sends it.
+fn is_heard(request: &Request) -> bool
+    ensures { result ≡ is_heard request.now }
+{
+    match request {
+        Request::UplinkReq(_) => true,
+        Request::JoinReq(_)
+        | Request::RejoinReq(_)
+        | Request::AppSKeyReq(_)
+        | Request::HomeNSReq(_)
+        | Request::Unknown => false,
+    }
+}
+
 // What the home network makes of a request of a gateway, and the join server of any other.
 fn by_part<'a, E: BlockFn, D: BlockFn>(
     alloc: Global,
@@ -106,10 +121,10 @@ fn by_part<'a, E: BlockFn, D: BlockFn>(
     ensures { IfOk result (λ d. d ≡ by_part tables.now (nwk_at vault.now) (app_at vault.now)
         (lapse now.0 state.now.now) message.head message.request) }
 {
-    match message.request {
-        Request::UplinkReq(_) => ns_decide(alloc, tables, vault, state, message, now),
-        _ => js_decide(alloc, tables, vault, state, message, now),
+    if is_heard(&message.request) {
+        return ns_decide(alloc, tables, vault, state, message, now);
     }
+    js_decide(alloc, tables, vault, state, message, now)
 }
 
 // The answer, and what changes, where what has ended is gone.

@@ -15,3 +15,5 @@ pub mod Marks
 pub mod Counting
 pub mod Issuing
 pub mod Window
+pub mod Owners
+pub mod Tabled

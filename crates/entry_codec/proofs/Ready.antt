@@ -54,7 +54,7 @@ device_lapsed p at ds i = ap (holds_of p) (slice_get-map (lapsed at) ds i) ∙ h
 device_as : (p : Device → Bool) (at : ℕ) (ds : List Device) (i : ℕ) → ((d : Device) → p (lapsed at d) ≡ p d) → holds_of p (slice_get (map (lapsed at) ds) i) ≡ holds_of p (slice_get ds i)
 device_as p at ds i same = device_lapsed p at ds i ∙ holds_same (λ d. p (lapsed at d)) p same (slice_get ds i)
 
-has-lapsed : (addr : DevAddr) (at : ℕ) (d : Device) → device_has addr (lapsed at d) ≡ device_has addr d
+pub has-lapsed : (addr : DevAddr) (at : ℕ) (d : Device) → device_has addr (lapsed at d) ≡ device_has addr d
 unfolding lapsed
 has-lapsed addr at d = refl
 

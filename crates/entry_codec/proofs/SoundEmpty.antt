@@ -15,7 +15,7 @@ use Rattle.entry_codec.specs.Empty.{application_sender, empty, empty_kept, gatew
 use Rattle.entry_codec.specs.Ends.{DeviceEndsFrom, EndsFrom}
 use Rattle.entry_codec.specs.Index.{names, row_number}
 use Rattle.entry_codec.specs.Kept.{AllFew}
-use Rattle.entry_codec.specs.Sound.{IsSound, IsSoundDevice, device_uses, network_of, networks}
+use Rattle.entry_codec.specs.Sound.{IsSound, IsSoundDevice, device_uses, network_of, networks, uses}
 
 -- ---- senders
 
@@ -107,6 +107,10 @@ sound-empty c few few_nets = record {
   asks_before = tt;
   addresses = λ addr. omega (arith, unused addr c.desk.net_id c.devices);
 }
+
+pub uses_empty : (addr : DevAddr) (c : Config) → uses addr (empty c) ≡ 0
+unfolding empty
+uses_empty addr c = omega (arith, unused addr c.desk.net_id c.devices)
 
 pub names-new : (own : ℕ) (rows : List DeviceRow) → names (map (new_device own) rows) ≡ map row_number rows
 names-new own [] = refl

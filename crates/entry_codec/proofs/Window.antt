@@ -44,7 +44,7 @@ marks_slots first s a b c h k = marks_then first (λ x. slot_has x s.active) (λ
 
 -- ---- all that is taken
 
-any_filter : {X : Type 0} (f p : X → Bool) (xs : List X) → list_any p (filter f xs) ≡ list_any (λ x. f x && p x) xs
+pub any_filter : {X : Type 0} (f p : X → Bool) (xs : List X) → list_any p (filter f xs) ≡ list_any (λ x. f x && p x) xs
 any_filter f p [] = refl
 any_filter f p (x ∷ xs) = elim (f x) as (λ b. list_any p (cond b (x ∷ filter f xs) (filter f xs)) ≡ ((b && p x) || list_any (λ y. f y && p y) xs)) [ true ↦ ap (λ (b : Bool). p x || b) (any_filter f p xs) | false ↦ any_filter f p xs ]
 

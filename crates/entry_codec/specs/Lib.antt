@@ -13,3 +13,4 @@ pub mod Replay
 pub mod Issues
 pub mod Free
 pub mod Told
+pub mod Addresses

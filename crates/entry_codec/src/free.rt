@@ -1,19 +1,19 @@
 //! The least free address of a network, found in one pass over all that have addresses.
 
 ghost use Rattle.std.specs.Prelude.{◌≡◌, ◌+◌, ◌<◌, ◌&&◌, ℕ, false, length, not};
-ghost use Rattle.std.specs.Prelude.{option_map, position};
-ghost use Rattle.std.specs.Prelude.{slice_index_or};
+ghost use Rattle.std.specs.Prelude.{IfSome, option_map, position, slice_index_or};
 ghost use Rattle.std.specs.List.{list_any};
 ghost use Rattle.wire_ids.specs.declared.address.DevAddr as dev_addr;
 ghost use Rattle.entry_codec.specs.Free.{IsFirstFree, Marks, addr_of, ask_stays, free_address};
-ghost use Rattle.entry_codec.specs.Free.{is_the};
-ghost use Rattle.entry_codec.specs.Free.{leaving, slots_leave, visitor_stays};
+ghost use Rattle.entry_codec.specs.Addresses.{IsTable};
+ghost use Rattle.entry_codec.specs.Free.{is_the, leaving, slots_leave, visitor_stays, window};
 ghost use Rattle.entry_codec.specs.LookUps.{device_has, is_addr, is_taken, slot_has, slots_have};
 ghost use Rattle.entry_codec.specs.Machine.{lapse, wake};
 ghost use Rattle.entry_codec.specs.Sound.{IsSound};
 
 use crate::now::Now;
 use crate::{Device, Holder, OpenAsk, Visitor};
+use address_table::AddressTable;
 use contexts::{Context, Slots};
 use wire_ids::{DevAddr, NetId, address_of};
 
@@ -144,23 +144,52 @@ impl Now {
         mark_asks(marks, first, self.asks.as_slice(), at);
     }
 
+    // The same, by the table where it has this window.
+    #[tactic(auto, using(crate::proofs::Tabled::marks_known))]
+    fn mark_known(&self, table: Option<&AddressTable>, marks: &mut [bool], first: u32, at: u64)
+        requires size { length marks.old ≡ window }
+        requires fresh { (i : ℕ) → i < window → slice_index_or marks.old i false ≡ false }
+        requires table { IfSome table (λ t. IsTable t.now (lapse at self.now.machine)) }
+        ensures { Marks first (λ (a : dev_addr.DevAddr). is_taken a (lapse at self.now.machine))
+            marks.old marks.new }
+    {
+        match table {
+            Some(table) if table.first().0 == first => marks.copy_from_slice(table.taken()),
+            _ => self.mark_taken(marks, first, at),
+        }
+    }
+
     // The first number of the window that is free.
-    fn free_in_window(&self, first: u32, who: Option<Holder>, at: u64) -> Option<usize>
-        requires { IsSound self.now.machine }
+    fn free_in_window(
+        &self,
+        table: Option<&AddressTable>,
+        first: u32,
+        who: Option<Holder>,
+        at: u64,
+    ) -> Option<usize>
+        requires sound { IsSound self.now.machine }
+        requires table { IfSome table (λ t. IsTable t.now (lapse at self.now.machine)) }
         ensures { IsFirstFree first
             (λ (a : dev_addr.DevAddr). is_taken a (wake who (lapse at self.now.machine)))
             result }
     {
         let mut marks = [false; WINDOW];
-        self.mark_taken(&mut marks, first, at);
+        self.mark_known(table, &mut marks, first, at);
         unmark(&mut marks, first, self.leaving(who, at));
         first_free(&marks)
     }
 
     /// The least address of the network that no context and no open ask has at a moment, once the
     /// pending context of `who` is active; none exactly where all are taken.
-    pub(crate) fn free_address(&self, net: NetId, who: Option<Holder>, at: u64) -> Option<DevAddr>
-        requires { IsSound self.now.machine }
+    pub(crate) fn free_address(
+        &self,
+        table: Option<&AddressTable>,
+        net: NetId,
+        who: Option<Holder>,
+        at: u64,
+    ) -> Option<DevAddr>
+        requires sound { IsSound self.now.machine }
+        requires table { IfSome table (λ t. IsTable t.now (lapse at self.now.machine)) }
         ensures { option_map (λ (a : dev_addr.DevAddr). a.0) result
             ≡ free_address net (wake who (lapse at self.now.machine)) }
     {
@@ -168,7 +197,7 @@ impl Now {
         let _ = net.get();
         let mut from = 0;
         while let Some(first) = address_of(net, from) {
-            if let Some(n) = self.free_in_window(first.0, who, at) {
+            if let Some(n) = self.free_in_window(table, first.0, who, at) {
                 return address_of(net, from + n as u32);
             }
             from += WINDOW as u32;

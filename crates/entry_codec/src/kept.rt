@@ -1,7 +1,9 @@
-ghost use Rattle.std.specs.Prelude.{◌≡◌, ◌≤◌, [], find, length, IfOk, position};
+ghost use Rattle.std.specs.Prelude.{◌≡◌, ◌≤◌, ◌%◌, ◌^◌, [], ◌∷◌, find, length, IfOk, position};
+ghost use Rattle.std.specs.Prelude.{sum, take, vec_capacity};
 ghost use Rattle.std.specs.Option.{option_copied};
 ghost use Rattle.wire_ids.specs.Lists.{changed};
-ghost use Rattle.entry_codec.specs.Kept.{answer_among, is_of, keep, kept_answer, put_first};
+ghost use Rattle.entry_codec.specs.Kept.{answer_among, has_body, is_of, keep};
+ghost use Rattle.entry_codec.specs.Kept.{kept_answer, put_first};
 ghost use Rattle.entry_codec.specs.LookUps.{is_same_sender};
 
 use entries::Request;
@@ -20,17 +22,54 @@ pub struct KeptPair {
 #[derive(Drop)]
 pub struct KeptPairs {
     pairs: Vec<KeptPair>,
+    // The sum of each body's bytes. They lie together, and the bodies don't.
+    sums: Vec<u32>,
 }
 
 impl Model for KeptPairs {
-    ghost use Rattle.std.specs.Prelude.{List, ◌≤◌, length, vec_capacity};
+    ghost use Rattle.std.specs.Prelude.{List, ◌≡◌, ◌≤◌, length, map, sum, vec_capacity, ◌%◌, ◌^◌};
     ghost use Rattle.entry_codec.specs.declared.kept.KeptPair.{KeptPair};
 
     ghost Value = { List KeptPair };
 
     ghost view = { λ a. a.pairs.items };
 
-    ghost invariant = { λ a. (length a.pairs.items ≤ 64) × (64 ≤ vec_capacity a.pairs) };
+    ghost invariant = { λ a. (length a.pairs.items ≤ 64)
+        × (64 ≤ vec_capacity a.pairs)
+        × (64 ≤ vec_capacity a.sums)
+        × (a.sums.items ≡ map (λ (p : KeptPair). sum p.body % 2 ^ 32) a.pairs.items) };
+}
+
+// The sum of a text's bytes, as far as it fits.
+fn sum_of(text: &[u8]) -> u32
+    ensures { result ≡ sum text.now % 2 ^ 32 }
+{
+    let mut total = 0u32;
+    for byte in text {
+        total = total.wrapping_add(u32::from(*byte));
+    }
+    total
+}
+
+// Puts an element in front, and drops the 65th.
+fn put_first<T: Drop>(list: &mut Vec<T>, new: T)
+    requires { 64 ≤ vec_capacity list.old }
+    ensures items { list.new.items ≡ take 64 (new ∷ list.old.items) }
+    ensures few { length list.new.items ≤ 64 }
+    ensures capacity { vec_capacity list.new ≡ vec_capacity list.old }
+{
+    list.truncate(63);
+    let _ = list.insert(0, new);
+}
+
+// Whether the pair has this body. The sums tell most that differ, without a look at the bodies.
+#[tactic(auto, using(crate::proofs::Keeping::body_by_sum))]
+fn has_body(pair: &KeptPair, own: u32, body: &[u8], asked: u32) -> bool
+    requires own { own ≡ sum pair.now.body % 2 ^ 32 }
+    requires asked { asked ≡ sum body.now % 2 ^ 32 }
+    ensures { result ≡ has_body body.now pair.now }
+{
+    own == asked && pair.body.as_slice() == body
 }
 
 impl KeptPairs {
@@ -40,6 +79,7 @@ impl KeptPairs {
     {
         Ok(KeptPairs {
             pairs: Vec::with_capacity(alloc, 64)?,
+            sums: Vec::with_capacity(alloc, 64)?,
         })
     }
 
@@ -47,8 +87,8 @@ impl KeptPairs {
     fn put(&mut self, pair: KeptPair)
         ensures { self.new ≡ put_first pair self.old }
     {
-        self.pairs.truncate(63);
-        let _ = self.pairs.insert(0, pair);
+        put_first(&mut self.sums, sum_of(pair.body.as_slice()));
+        put_first(&mut self.pairs, pair);
     }
 
     /// The pairs, the newest first.
@@ -57,6 +97,21 @@ impl KeptPairs {
         ensures few { length result.now ≤ 64 }
     {
         self.pairs.as_slice()
+    }
+
+    // The answer of the newest pair with this body.
+    #[tactic(auto, using(crate::proofs::Keeping::found_at, crate::proofs::Keeping::not_at))]
+    fn answer_among(&self, body: &[u8]) -> Option<&ShortText>
+        ensures { option_copied result ≡ answer_among body.now self.now }
+    {
+        let sum = sum_of(body);
+        let count = self.pairs.len();
+        for i in 0..count {
+            if has_body(&self.pairs[i], self.sums[i], body, sum) {
+                return Some(&self.pairs[i].answer);
+            }
+        }
+        None
     }
 }
 
@@ -107,15 +162,6 @@ pub(crate) fn keep(kept: &mut Vec<KeptAnswers>, request: Option<Request>)
     }
 }
 
-fn answer_among<'a>(pairs: &'a [KeptPair], body: &[u8]) -> Option<&'a ShortText>
-    ensures { option_copied result ≡ answer_among body.now pairs.now }
-{
-    pairs
-        .iter()
-        .find(|pair| pair.body.as_slice() == body)
-        .map(|pair| &pair.answer)
-}
-
 fn answers_of(kept: &[KeptAnswers], sender: Sender) -> Option<&KeptAnswers>
     ensures { option_copied result ≡ find (is_of sender) kept.now }
 {
@@ -132,6 +178,6 @@ pub(crate) fn kept_answer<'a>(
 {
     match answers_of(kept, sender) {
         None => None,
-        Some(kept) => answer_among(kept.pairs.as_slice(), body),
+        Some(kept) => kept.pairs.answer_among(body),
     }
 }

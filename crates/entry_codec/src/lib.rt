@@ -1,6 +1,7 @@
 //! The state that the entries of the journal make, and which entries fit it.
 #![tactic(auto)]
 
+mod addresses;
 mod asks;
 mod device;
 mod devices;

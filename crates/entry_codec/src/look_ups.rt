@@ -421,7 +421,7 @@ impl Now {
         }
     }
 
-    fn is_active_at(&self, addr: DevAddr, who: Holder, at: u64) -> bool
+    pub(crate) fn is_active_at(&self, addr: DevAddr, who: Holder, at: u64) -> bool
         ensures { result
             ≡ holds_of (is_active_at addr) (slots_of (Some who) (lapse at self.now.machine)) }
     {

@@ -143,11 +143,17 @@ impl State {
         self.current.slots(who, at.0)
     }
 
-    /// The context with this address.
+    /// The context with this address, found in one step.
+    #[tactic(auto, using(crate::proofs::Tabled::context_known))]
     pub fn live_context(&self, addr: DevAddr, at: Moment) -> Option<LiveContext>
         ensures { result ≡ live_context addr (lapse at.0 self.now.now) }
     {
-        self.current.live_context(addr, at.0)
+        match self.table_at(at.0) {
+            Some(table) if table.knows(addr) => {
+                self.current.context_of(table.owner(addr), addr, at.0)
+            }
+            _ => self.current.live_context(addr, at.0),
+        }
     }
 
     /// Whose pending context an event of this moment makes active before it is looked at.
@@ -163,7 +169,8 @@ impl State {
         ensures { option_map (λ (a : dev_addr.DevAddr). a.0) result
             ≡ free_address net (wake who (lapse at.0 self.now.now)) }
     {
-        self.current.free_address(net, who, at.0)
+        self.current
+            .free_address(self.table_at(at.0), net, who, at.0)
     }
 
     /// Whether the device may visit under the address of this ask.

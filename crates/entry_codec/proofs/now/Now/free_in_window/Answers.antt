@@ -8,12 +8,15 @@ use Rattle.entry_codec.specs.Machine.{lapse, wake}
 use Rattle.entry_codec.proofs.Window.{awake_marks, first_free}
 use Rattle.entry_codec.proofs.now.Now.free_in_window.Goals as goal
 
+pub mark_known-requires-clause-fresh : goal.mark_known-requires-clause-fresh
+mark_known-requires-clause-fresh c = λ i lt. get_or-replicate 10368 i false false lt
+
 pub returns : goal.returns
 returns c =
     let m = c.args.self.now.machine in
     let at = c.args.at in
-    let old = c.mark_taken.new.marks in
+    let old = c.mark_known.new.marks in
     let new = c.unmark.new.marks in
-    first_free c.args.first (λ (a : DevAddr). is_taken a (wake c.args.who (lapse at m))) new c.first_free.result (c.unmark.ensures.0 ∙ c.mark_taken.ensures.0 ∙ refl) (sym c.first_free.ensures)
-    (awake_marks c.args.first at c.args.who m new old c.requires c.unmark.ensures.0 (λ i lt. c.mark_taken.ensures.1 i (omega (arith, lt, c.mark_taken.ensures.0)) ∙ ap (λ (b : Bool). b || is_taken (addr_of (c.args.first + i)) (lapse at m)) (get_or-replicate 10368 i false false (omega (arith, lt, c.mark_taken.ensures.0))))
+    first_free c.args.first (λ (a : DevAddr). is_taken a (wake c.args.who (lapse at m))) new c.first_free.result (c.unmark.ensures.0 ∙ c.mark_known.ensures.0 ∙ refl) (sym c.first_free.ensures)
+    (awake_marks c.args.first at c.args.who m new old c.requires.sound c.unmark.ensures.0 (λ i lt. c.mark_known.ensures.1 i (omega (arith, lt, c.mark_known.ensures.0)) ∙ ap (λ (b : Bool). b || is_taken (addr_of (c.args.first + i)) (lapse at m)) (get_or-replicate 10368 i false false (omega (arith, lt, c.mark_known.ensures.0))))
     (λ i lt. c.unmark.ensures.1 i lt ∙ ap (λ (o : Option DevAddr). not (is_addr (addr_of (c.args.first + i)) o) && get_or old i false) c.leaving.ensures))

@@ -1,0 +1,8 @@
+//! Who has which address, found in one step.
+#![tactic(auto)]
+
+mod owner;
+mod table;
+
+pub use owner::Owner;
+pub use table::{AddressTable, WINDOW};

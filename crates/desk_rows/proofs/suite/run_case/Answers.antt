@@ -10,8 +10,7 @@ returns g c =
     let passed = c.pass_all.result in
     let lines = c.in_ok-verdict.field-0.items in
     let verdict = c.in_ok-verdict.ensures in
-    let said = said_so passed c.as_slice-ended.result.now c.deref.result.now lines c.pass_all.ensures verdict.passes verdict.differs in
-    (
+    let said = said_so passed c.as_slice-ended.result.now c.deref.result.now lines c.pass_all.ensures verdict.passes verdict.differs in (
       lines,
       subst (λ (name : List ℕ). Says passed name lines) c.deref.ensures said,
       subst (λ (written : List ℕ). Appends (contents c.args.out.now) (contents c.write_all.new.self) written) c.deref-2.ensures.value c.in_ok-write_all.ensures.bytes,

@@ -11,6 +11,7 @@ use Rattle.backend_json.specs.declared.value.Part.TheVariants as part
 use Rattle.backend_json.specs.declared.value.Value.{Value}
 use Rattle.backend_json.specs.declared.value.Value.TheVariants as value
 use Rattle.backend_json.specs.Answers.{AnswerMembers, hex_data, key_data, result_data, session_bytes}
+use Rattle.backend_json.specs.Names.{name_text}
 use Rattle.backend_json.specs.Objects.{Field, field, member_if}
 
 abbrev pub part_data : Part → Data
@@ -28,7 +29,7 @@ value_data (value.Key key) = key_data key.now
 value_data (value.Result code words said) = result_data code (words.now ++ said.now)
 
 abbrev pub field_now : {V : Type 0} → (V → Data) → Member V → Field
-field_now json m = field m.0.now (option_map json m.1.now)
+field_now json m = field (name_text m.0) (option_map json m.1.now)
 
 abbrev pub members_now : Written → AnswerMembers
 members_now m = record {

@@ -9,6 +9,7 @@ mod member;
 mod members;
 mod message;
 mod message_type;
+mod name;
 mod object;
 mod refusal;
 mod request;

@@ -8,6 +8,7 @@ ghost use Rattle.backend_json.specs.Answers.{hex_data, join_members, key_data, m
 ghost use Rattle.backend_json.specs.Answers.{number_data, of_type, session_data, success, text_of};
 ghost use Rattle.backend_json.specs.Writing.{field_now, members_now, value_data};
 
+use crate::name::Name;
 use crate::object::{Member, put_object};
 use crate::value::Value;
 use crate::{
@@ -45,22 +46,22 @@ impl<'a> Members<'a> {
         ensures { map (field_now value_data) result ≡ named (members_now self.now) }
     {
         [
-            Member("AppSKey", &self.app_s_key),
-            Member("DevEUI", &self.dev_eui),
-            Member("FCntUp", &self.f_cnt_up),
-            Member("FNwkSIntKey", &self.f_nwk_s_int_key),
-            Member("HNetID", &self.h_net_id),
-            Member("Lifetime", &self.lifetime),
-            Member("MessageType", &self.message_type),
-            Member("NwkSEncKey", &self.nwk_s_enc_key),
-            Member("PHYPayload", &self.phy_payload),
-            Member("ProtocolVersion", &self.protocol_version),
-            Member("ReceiverID", &self.receiver_id),
-            Member("Result", &self.result),
-            Member("SNwkSIntKey", &self.s_nwk_s_int_key),
-            Member("SenderID", &self.sender_id),
-            Member("SessionKeyID", &self.session_key_id),
-            Member("TransactionID", &self.transaction_id),
+            Member(Name::AppSKey, &self.app_s_key),
+            Member(Name::DevEui, &self.dev_eui),
+            Member(Name::FCntUp, &self.f_cnt_up),
+            Member(Name::FNwkSIntKey, &self.f_nwk_s_int_key),
+            Member(Name::HNetId, &self.h_net_id),
+            Member(Name::Lifetime, &self.lifetime),
+            Member(Name::MessageType, &self.message_type),
+            Member(Name::NwkSEncKey, &self.nwk_s_enc_key),
+            Member(Name::PhyPayload, &self.phy_payload),
+            Member(Name::ProtocolVersion, &self.protocol_version),
+            Member(Name::ReceiverId, &self.receiver_id),
+            Member(Name::Result, &self.result),
+            Member(Name::SNwkSIntKey, &self.s_nwk_s_int_key),
+            Member(Name::SenderId, &self.sender_id),
+            Member(Name::SessionKeyId, &self.session_key_id),
+            Member(Name::TransactionId, &self.transaction_id),
         ]
     }
 }

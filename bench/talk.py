@@ -12,7 +12,7 @@ from device import Device
 from second_desk import Desk
 
 TOP = os.path.dirname(os.path.dirname(os.path.abspath(__file__)))
-LATER = os.path.join(TOP, "bench", "later")
+DATA = os.path.join(TOP, "crates", "desk_rows", "data")
 with open(os.path.join(TOP, "crates", "desk_main", "data", "sample.toml")) as f:
     SAMPLE = f.read()
 
@@ -70,7 +70,7 @@ class Talk:
         self.said = [f"# {line}" for line in note.split("\n") if line] + [f"case {name}"]
         text = SAMPLE
         if tables:
-            with open(os.path.join(LATER, tables)) as f:
+            with open(os.path.join(DATA, tables)) as f:
                 text = f.read()
             self.said.append(f"tables {tables}")
         for old, new in replace:

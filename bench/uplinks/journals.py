@@ -1,8 +1,9 @@
 """Cases: from a history in the journal, over several lives, and in a network whose addresses are all used."""
 
+import entries
 from common import LIST_BYTES, count1, flipped, started
 from device import Device, Session
-from formulas import rejoin02
+from formulas import le, rejoin02, up_mic
 from talk import FIRST, FOREIGN, JOIN_EUI, NET, SECOND, Talk, device
 
 
@@ -150,6 +151,21 @@ def taken():
         yield talk
 
 
+COLLIDES = 124_500  # the search begins near the number at which it ends for the first device's second uplink
+
+
+def colliding(dev):
+    """An uplink whose MIC is valid on two channels: that on which it was sent, and one below."""
+    session = dev.session
+    for tried in range(COLLIDES, 2**20):
+        frame = dev.uplink(le(tried, 4), channel=2)
+        session.up = count = session.up - 1
+        if any(up_mic(session.f, session.s, frame[:-4], count, 0, 0, below) == frame[-4:] for below in (0, 1)):
+            session.up += 1
+            return frame
+    raise ValueError("no such uplink")
+
+
 def lives():
     """The program ends, and is started again."""
     talk, dev = started("contexts and counters are there when the desk is started again", uplinks=2)
@@ -192,6 +208,13 @@ def lives():
     talk.rejoin(dev, 2)
     talk.hears(device(33).join(), "device")
     talk.entries_wanted("Join", "Up", "Rejoin", "Up", "Rejoin", "Rejoin")
+    yield talk
+
+    talk, dev = started("of two channels on which a MIC is valid the least is written down")
+    talk.hears(colliding(dev))
+    if entries.decoded(talk.desk.records[-1])["channel"] == 2:
+        raise ValueError("the greatest channel")
+    talk.entries_wanted("Join", "Up", "Up")
     yield talk
 
     talk, dev = started("a suspended device sends uplinks, and isn't activated")

@@ -1,5 +1,5 @@
 -- What a body is, where it is text and where it isn't.
-use Rattle.std.proofs.Common.{◌≡◌, List, ℕ, Bool, cond, Option, None, Some, IsUtf8, ◌∙◌, ap, inl, inr}
+use Rattle.std.proofs.Common.{◌≡◌, List, ℕ, Bool, cond, None, Some, IsUtf8, ◌∙◌, ap, inl, inr}
 use Rattle.std.specs.Str.{is_utf8}
 use Rattle.std.proofs.lemmas.Bool.{cases_Bool}
 use Rattle.std.proofs.lemmas.Str.{IsUtf8-from_is_utf8, is_utf8-from_IsUtf8}

@@ -6,10 +6,12 @@ use Rattle.backend_json.specs.declared.answer.AppSKeyAnswer.{AppSKeyAnswer}
 use Rattle.backend_json.specs.declared.answer.HomeNsAnswer.{HomeNsAnswer}
 use Rattle.backend_json.specs.declared.answer.JoinAnswer.{JoinAnswer}
 use Rattle.backend_json.specs.declared.answer.KeyEnvelope.{KeyEnvelope}
-use Rattle.backend_json.specs.declared.answer.Outcome.TheVariants.{AppSKeyAns, HomeNSAns, JoinAns, Refused, RejoinAns}
+use Rattle.backend_json.specs.declared.answer.Outcome.TheVariants.{AppSKeyAns, HomeNSAns, JoinAns, Refused, RejoinAns, UplinkAns}
+use Rattle.backend_json.specs.declared.answer.UplinkAnswer.{UplinkAnswer}
 use Rattle.backend_json.specs.declared.head.Head.{Head}
 use Rattle.backend_json.specs.declared.refusal.Refusal.{Refusal}
-use Rattle.backend_json.specs.Answers.{answer_members, key_data, named, result_data}
+use Rattle.backend_json.specs.declared.session.SessionKeyId.{SessionKeyId}
+use Rattle.backend_json.specs.Answers.{answer_members, hex_data, key_data, named, number_data, result_data, session_data}
 use Rattle.backend_json.specs.Keys.{KeyMember, KeysAreWritten, key_if, key_in, key_members, members_of_keys}
 
 key_read : (name : List ℕ) (key : Option KeyEnvelope) → key_in name (option_map key_data key) ≡ key_if name key
@@ -51,6 +53,27 @@ pub home_ns_written : (head : Head) (answer : HomeNsAnswer) → key_members (Hea
 unfolding key_members answer_members named result_data
 home_ns_written head answer = refl
 
+-- a number and a text are no key
+number_read : (name : List ℕ) (n : Option ℕ) → key_in name (option_map number_data n) ≡ []
+number_read name None = refl
+number_read name (Some n) = refl
+
+bytes_read : (name : List ℕ) (bytes : Option (List ℕ)) → key_in name (option_map hex_data bytes) ≡ []
+bytes_read name None = refl
+bytes_read name (Some bytes) = refl
+
+session_read : (name : List ℕ) (id : Option SessionKeyId) → key_in name (option_map session_data id) ≡ []
+session_read name None = refl
+session_read name (Some id) = refl
+
+pub uplink_written : (head : Head) (answer : UplinkAnswer) → key_members (Headed head (UplinkAns answer)) ≡ []
+unfolding key_members answer_members named result_data
+uplink_written head answer = rw (
+  number_read (codes "FCntUp") answer.f_cnt_up,
+  bytes_read (codes "PHYPayload") answer.phy_payload,
+  session_read (codes "SessionKeyID") answer.session_key_id,
+) refl
+
 one_read : (name : List ℕ) (key : Option KeyEnvelope) → read name key ++ [] ≡ key_if name key
 one_read name key = rw (key_read name key, append-nil (key_if name key)) refl
 
@@ -59,4 +82,4 @@ unfolding key_members answer_members named result_data
 app_s_key_written head answer = one_read (codes "AppSKey") answer.app_s_key
 
 pub keys_are_written : KeysAreWritten
-keys_are_written = record { headless = headless_written; refused = none_written; join = join_written; rejoin = rejoin_written; app_s_key = app_s_key_written; home_ns = home_ns_written }
+keys_are_written = record { headless = headless_written; refused = none_written; join = join_written; rejoin = rejoin_written; app_s_key = app_s_key_written; home_ns = home_ns_written; uplink = uplink_written }

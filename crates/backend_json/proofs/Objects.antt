@@ -1,10 +1,9 @@
 -- An object is written a member at a time.
-use Rattle.std.proofs.Common.{◌≡◌, ℕ, List, [], ◌∷◌, ◌++◌, Bool, true, false, Option, Some, None, refl, sym, ap, ◌∙◌, append_assoc, arith, ◌<◌, ◌≤◌, ◌+◌, length, drop, map, get_or}
-use Rattle.std.proofs.lemmas.List.{at_drop_more, at_drop_all}
-use Rattle.json.specs.Print.{quoted}
-use Rattle.serde_json.specs.Data.{Data, Members, member, no_members, object}
+use Rattle.std.proofs.Common.{◌≡◌, ℕ, List, [], ◌∷◌, ◌++◌, Bool, true, Some, sym, ap, ◌∙◌, append_assoc, ◌<◌, ◌+◌, length, drop, map, get_or}
+use Rattle.std.proofs.lemmas.List.{at_drop_more}
+use Rattle.serde_json.specs.Data.{Data, member, no_members, object}
 use Rattle.serde_json.specs.Written.{comma_if, compact_text, members_text}
-use Rattle.backend_json.specs.Objects.{Field, field, member_if, members_of, object_text}
+use Rattle.backend_json.specs.Objects.{Field, field, members_of}
 use Rattle.backend_json.specs.Writing.{GoesOn, entry_text}
 
 -- what was written at each step of a member

@@ -1,9 +1,8 @@
 -- The texts of answers (TS002, Messages and Payloads): compact JSON, the members in the ascending byte order of their names.
-use Rattle.std.specs.Prelude.{◌≡◌, ℕ, ◌&&◌, List, [], ◌∷◌, ◌++◌, codes, Option, Some, None, option_map, if◌then◌else◌}
+use Rattle.std.specs.Prelude.{ℕ, List, [], ◌∷◌, ◌++◌, codes, Option, Some, None, option_map}
 use Rattle.std.specs.Int.{w64, to_be_bytes}
-use Rattle.std.specs.Str.{bytes_eq}
 use Rattle.hex.specs.Hex.{encode_lower}
-use Rattle.serde_json.specs.Data.{Data, Members, no_members, member, string, number, unsigned, object}
+use Rattle.serde_json.specs.Data.{Data, no_members, member, string, number, unsigned, object}
 use Rattle.wire_ids.specs.Digits.{eui_digits, net_digits}
 use Rattle.wire_ids.specs.Numbers.{three_bytes}
 use Rattle.wire_ids.specs.declared.party.Sender.{Sender}
@@ -18,13 +17,10 @@ use Rattle.backend_json.specs.declared.refusal.ResultCode.{ResultCode}
 use Rattle.backend_json.specs.declared.refusal.ResultCode.TheVariants as code
 use Rattle.backend_json.specs.declared.answer.Answer.{Answer}
 use Rattle.backend_json.specs.declared.answer.Answer.TheVariants.{Headless, Headed}
-use Rattle.backend_json.specs.declared.answer.AnswerKeys.{AnswerKeys}
-use Rattle.backend_json.specs.declared.answer.AppSKeyAnswer.{AppSKeyAnswer}
-use Rattle.backend_json.specs.declared.answer.HomeNsAnswer.{HomeNsAnswer}
 use Rattle.backend_json.specs.declared.answer.JoinAnswer.{JoinAnswer}
 use Rattle.backend_json.specs.declared.answer.KeyEnvelope.{KeyEnvelope}
 use Rattle.backend_json.specs.declared.answer.Outcome.{Outcome}
-use Rattle.backend_json.specs.declared.answer.Outcome.TheVariants.{Refused, JoinAns, RejoinAns, AppSKeyAns, HomeNSAns}
+use Rattle.backend_json.specs.declared.answer.Outcome.TheVariants.{Refused, JoinAns, RejoinAns, AppSKeyAns, HomeNSAns, UplinkAns}
 use Rattle.backend_json.specs.Objects.{Field, field, object_text}
 use Rattle.backend_json.specs.Refusals.{code_of, code_text, description_of}
 use Rattle.backend_json.specs.Types.{answer_name}
@@ -45,6 +41,12 @@ peer_digits (peer.JoinServer eui) = eui_digits eui
 unfoldable pub session_bytes : SessionKeyId → List ℕ
 session_bytes id = to_be_bytes w64 id.dev_eui.0 ++ three_bytes id.join_nonce
 
+abbrev pub number_data : ℕ → Data
+number_data n = number (unsigned n)
+
+abbrev pub session_data : SessionKeyId → Data
+session_data id = hex_data (session_bytes id)
+
 -- a wrapped key beside the label of its KEK
 unfoldable pub key_data : KeyEnvelope → Data
 key_data key = object (member (codes "AESKey") (hex_data key.aes_key) (member (codes "KEKLabel") (string key.kek_label) no_members))
@@ -58,6 +60,7 @@ result_data code description = object (member (codes "Description") (string desc
 pub record AnswerMembers : Type 0 where
   pub app_s_key : Option Data
   pub dev_eui : Option Data
+  pub f_cnt_up : Option Data
   pub f_nwk_s_int_key : Option Data
   pub h_net_id : Option Data
   pub lifetime : Option Data
@@ -77,6 +80,7 @@ unfoldable pub named : AnswerMembers → List Field
 named m =
     field (codes "AppSKey") m.app_s_key
     ∷ field (codes "DevEUI") m.dev_eui
+    ∷ field (codes "FCntUp") m.f_cnt_up
     ∷ field (codes "FNwkSIntKey") m.f_nwk_s_int_key
     ∷ field (codes "HNetID") m.h_net_id
     ∷ field (codes "Lifetime") m.lifetime
@@ -97,6 +101,7 @@ abbrev pub of_type : List ℕ → AnswerMembers
 of_type message_type = record {
   app_s_key = None;
   dev_eui = None;
+  f_cnt_up = None;
   f_nwk_s_int_key = None;
   h_net_id = None;
   lifetime = None;
@@ -119,7 +124,7 @@ headed head version = record (of_type (answer_name head.message_type)) {
   protocol_version = Some (string version);
   receiver_id = Some (string (sender_digits head.sender));
   sender_id = Some (string (peer_digits head.receiver));
-  transaction_id = Some (number (unsigned head.transaction_id));
+  transaction_id = Some (number_data head.transaction_id);
 }
 
 -- the request's version, but 1.1 where it is the cause of refusal
@@ -138,11 +143,11 @@ abbrev pub join_members : Head → JoinAnswer → AnswerMembers
 join_members head answer = record (success head) {
   app_s_key = option_map key_data answer.keys.app_s_key;
   f_nwk_s_int_key = option_map key_data answer.keys.f_nwk_s_int_key;
-  lifetime = Some (number (unsigned answer.lifetime));
+  lifetime = Some (number_data answer.lifetime);
   nwk_s_enc_key = option_map key_data answer.keys.nwk_s_enc_key;
   phy_payload = Some (hex_data answer.phy_payload);
   s_nwk_s_int_key = option_map key_data answer.keys.s_nwk_s_int_key;
-  session_key_id = Some (hex_data (session_bytes answer.session_key_id));
+  session_key_id = Some (session_data answer.session_key_id);
 }
 
 -- the members of each answer; a refusal has its Result, and no further member
@@ -153,9 +158,15 @@ members_for head (RejoinAns answer) = join_members head answer
 members_for head (AppSKeyAns answer) = record (success head) {
   app_s_key = option_map key_data answer.app_s_key;
   dev_eui = Some (string (eui_digits answer.dev_eui));
-  session_key_id = Some (hex_data (session_bytes answer.session_key_id));
+  session_key_id = Some (session_data answer.session_key_id);
 }
 members_for head (HomeNSAns answer) = record (success head) { h_net_id = Some (string (net_digits answer.h_net_id)) }
+members_for head (UplinkAns answer) = record (success head) {
+  dev_eui = Some (string (eui_digits answer.dev_eui));
+  f_cnt_up = option_map number_data answer.f_cnt_up;
+  phy_payload = option_map hex_data answer.phy_payload;
+  session_key_id = option_map session_data answer.session_key_id;
+}
 
 -- without a readable head there are a type and a result alone
 abbrev pub headless : AnswerMembers

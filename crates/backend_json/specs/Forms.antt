@@ -1,5 +1,5 @@
 -- The forms in which the members of messages are written (TS002, Messages and Payloads): what a value is, where it has the form.
-use Rattle.std.specs.Prelude.{ℕ, ◌^◌, List, take, drop, length, nat_lt, ◌==◌, slice_index, if◌then◌else◌, Option, Some, None, option_and_then, option_map, Result, Ok, Err}
+use Rattle.std.specs.Prelude.{ℕ, List, take, drop, length, nat_lt, ◌==◌, slice_index, if◌then◌else◌, Option, Some, None, option_and_then, option_map, Result, Ok, Err}
 use Rattle.std.specs.Borrow.{Bor}
 use Rattle.std.specs.Int.{w64, from_be_bytes}
 use Rattle.std.specs.Result.{result_ok}

@@ -9,3 +9,4 @@ pub mod Answers
 pub mod Writing
 pub mod Order
 pub mod Keys
+pub mod Names

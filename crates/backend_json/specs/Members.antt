@@ -22,6 +22,7 @@ path_of member.DlSettings = codes "DLSettings"
 path_of member.RxDelay = codes "RxDelay"
 path_of member.CfList = codes "CFList"
 path_of member.SessionKeyId = codes "SessionKeyID"
+path_of member.DataRate = codes "DataRate"
 
 -- the name of a member in its object, which is the path where that is the message itself
 abbrev pub name_of : Key → List ℕ

@@ -3,7 +3,7 @@ use Rattle.std.specs.Prelude.{ℕ, List, [], ◌++◌, Option, Some, None, codes
 use Rattle.backend_json.specs.declared.refusal.Refusal.{Refusal}
 use Rattle.backend_json.specs.declared.refusal.Refusal.TheVariants as refusal
 use Rattle.backend_json.specs.declared.refusal.ResultCode.{ResultCode}
-use Rattle.backend_json.specs.declared.refusal.ResultCode.TheVariants.{Success, MalformedRequest, InvalidProtocolVersion, UnknownSender, UnknownReceiver, Deferred, FrameSizeError, UnknownDevEui, ActivationDisallowed, JoinReqFailed, MicFailed, Other}
+use Rattle.backend_json.specs.declared.refusal.ResultCode.TheVariants.{Success, MalformedRequest, InvalidProtocolVersion, UnknownSender, UnknownReceiver, Deferred, FrameSizeError, UnknownDevEui, UnknownDevAddr, ActivationDisallowed, JoinReqFailed, MicFailed, Other}
 
 abbrev pub code_text : ResultCode → List ℕ
 code_text Success = codes "Success"
@@ -14,6 +14,7 @@ code_text UnknownReceiver = codes "UnknownReceiver"
 code_text Deferred = codes "Deferred"
 code_text FrameSizeError = codes "FrameSizeError"
 code_text UnknownDevEui = codes "UnknownDevEUI"
+code_text UnknownDevAddr = codes "UnknownDevAddr"
 code_text ActivationDisallowed = codes "ActivationDisallowed"
 code_text JoinReqFailed = codes "JoinReqFailed"
 code_text MicFailed = codes "MICFailed"
@@ -43,12 +44,14 @@ row_of refusal.Asked = row 7 Deferred (codes "asked")
 row_of refusal.Size = row 8 FrameSizeError (codes "size")
 row_of refusal.Frame = row 9 MalformedRequest (codes "frame")
 row_of refusal.Device = row 10 UnknownDevEui (codes "device")
+row_of refusal.Address = row 11 UnknownDevAddr (codes "address")
 row_of refusal.Home = row 12 ActivationDisallowed (codes "home")
 row_of refusal.Suspended = row 13 ActivationDisallowed (codes "suspended")
 row_of refusal.Eui = row 18 JoinReqFailed (codes "eui")
 row_of refusal.Mic = row 19 MicFailed (codes "mic")
 row_of refusal.Counter = row 20 JoinReqFailed (codes "counter")
 row_of refusal.Spent = row 21 JoinReqFailed (codes "spent")
+row_of refusal.AddressesSpent = row 22 Other (codes "addresses spent")
 row_of refusal.Session = row 27 Other (codes "session")
 row_of refusal.PeerLate = peer_row Other (codes "peer late")
 row_of refusal.PeerFailed = peer_row Other (codes "peer failed")

@@ -11,8 +11,9 @@ use Rattle.backend_json.specs.declared.message_type.MessageType.TheVariants as k
 use Rattle.backend_json.specs.declared.request.JoinRequest.{JoinRequest}
 use Rattle.backend_json.specs.declared.request.AppSKeyRequest.{AppSKeyRequest}
 use Rattle.backend_json.specs.declared.request.HomeNsRequest.{HomeNsRequest}
+use Rattle.backend_json.specs.declared.request.UplinkRequest.{UplinkRequest}
 use Rattle.backend_json.specs.declared.request.Request.{Request}
-use Rattle.backend_json.specs.declared.request.Request.TheVariants.{JoinReq, RejoinReq, AppSKeyReq, HomeNSReq, Unknown}
+use Rattle.backend_json.specs.declared.request.Request.TheVariants.{JoinReq, RejoinReq, AppSKeyReq, HomeNSReq, UplinkReq, Unknown}
 use Rattle.backend_json.specs.Forms.{byte_form, bytes_form, cf_list_form, dev_addr_form, eui_form, peer_form, sender_form, session_form, type_form, whole_form}
 use Rattle.backend_json.specs.Members.{◌>>=◌, needed, optional}
 
@@ -60,10 +61,17 @@ home_ns_req_in d = do
   dev_eui ← needed eui_form member.DevEui d
   Ok (record { dev_eui = dev_eui })
 
+unfoldable pub uplink_req_in : Data → Result UplinkRequest Key
+uplink_req_in d = do
+  phy_payload ← needed bytes_form member.PhyPayload d
+  data_rate ← needed (whole_form 8) member.DataRate d
+  Ok (record { phy_payload = phy_payload; data_rate = data_rate })
+
 -- of a type that isn't served the common members alone are read
 unfoldable pub request_in : MessageType → Data → Result Request Key
 request_in kind.JoinReq d = join_req_in d >>= λ request. Ok (JoinReq request)
 request_in kind.RejoinReq d = join_req_in d >>= λ request. Ok (RejoinReq request)
 request_in kind.AppSKeyReq d = app_s_key_req_in d >>= λ request. Ok (AppSKeyReq request)
 request_in kind.HomeNSReq d = home_ns_req_in d >>= λ request. Ok (HomeNSReq request)
+request_in kind.UplinkReq d = uplink_req_in d >>= λ request. Ok (UplinkReq request)
 request_in kind.Unknown d = Ok Unknown

@@ -2,11 +2,11 @@
 use Rattle.std.specs.Prelude.{ℕ, List, [], ◌∷◌, Bool, codes, find, unwrap_or}
 use Rattle.std.specs.Str.{bytes_eq}
 use Rattle.backend_json.specs.declared.message_type.MessageType.{MessageType}
-use Rattle.backend_json.specs.declared.message_type.MessageType.TheVariants.{JoinReq, RejoinReq, AppSKeyReq, HomeNSReq, Unknown}
+use Rattle.backend_json.specs.declared.message_type.MessageType.TheVariants.{JoinReq, RejoinReq, AppSKeyReq, HomeNSReq, UplinkReq, Unknown}
 use Rattle.backend_json.specs.declared.message_type.SenderKind.{SenderKind}
-use Rattle.backend_json.specs.declared.message_type.SenderKind.TheVariants.{Network, Application, Nobody}
+use Rattle.backend_json.specs.declared.message_type.SenderKind.TheVariants.{Network, Application, Gateway, Nobody}
 use Rattle.backend_json.specs.declared.message_type.ReceiverKind.{ReceiverKind}
-use Rattle.backend_json.specs.declared.message_type.ReceiverKind.TheVariants.{JoinServer, Any}
+use Rattle.backend_json.specs.declared.message_type.ReceiverKind.TheVariants.{JoinServer, NetworkServer, Any}
 
 pub record TypeRow : Type 0 where
   pub name : List ℕ
@@ -23,6 +23,7 @@ type_row JoinReq = a_type (codes "JoinReq") (codes "JoinAns") Network JoinServer
 type_row RejoinReq = a_type (codes "RejoinReq") (codes "RejoinAns") Network JoinServer
 type_row AppSKeyReq = a_type (codes "AppSKeyReq") (codes "AppSKeyAns") Application JoinServer
 type_row HomeNSReq = a_type (codes "HomeNSReq") (codes "HomeNSAns") Network JoinServer
+type_row UplinkReq = a_type (codes "UplinkReq") (codes "UplinkAns") Gateway NetworkServer
 type_row Unknown = a_type [] (codes "ErrorNotif") Nobody Any
 
 abbrev pub name_of : MessageType → List ℕ
@@ -39,7 +40,7 @@ receiver_of message_type = (type_row message_type).receiver
 
 -- the types that are served
 abbrev pub served : List MessageType
-served = JoinReq ∷ RejoinReq ∷ AppSKeyReq ∷ HomeNSReq ∷ []
+served = JoinReq ∷ RejoinReq ∷ AppSKeyReq ∷ HomeNSReq ∷ UplinkReq ∷ []
 
 -- byte for byte
 abbrev pub has_name : List ℕ → MessageType → Bool

@@ -11,6 +11,7 @@ use Rattle.backend_json.specs.declared.value.Part.TheVariants as part
 use Rattle.backend_json.specs.declared.value.Value.{Value}
 use Rattle.backend_json.specs.declared.value.Value.TheVariants as value
 use Rattle.backend_json.specs.Answers.{AnswerMembers, hex_data, key_data, result_data, session_bytes}
+use Rattle.backend_json.specs.Names.{name_text}
 use Rattle.backend_json.specs.Objects.{Field, field, member_if}
 
 abbrev pub part_data : Part → Data
@@ -28,12 +29,13 @@ value_data (value.Key key) = key_data key.now
 value_data (value.Result code words said) = result_data code (words.now ++ said.now)
 
 abbrev pub field_now : {V : Type 0} → (V → Data) → Member V → Field
-field_now json m = field m.0.now (option_map json m.1.now)
+field_now json m = field (name_text m.0) (option_map json m.1.now)
 
 abbrev pub members_now : Written → AnswerMembers
 members_now m = record {
   app_s_key = option_map value_data m.app_s_key;
   dev_eui = option_map value_data m.dev_eui;
+  f_cnt_up = option_map value_data m.f_cnt_up;
   f_nwk_s_int_key = option_map value_data m.f_nwk_s_int_key;
   h_net_id = option_map value_data m.h_net_id;
   lifetime = option_map value_data m.lifetime;

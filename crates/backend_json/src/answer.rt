@@ -19,6 +19,7 @@ pub enum Outcome<'a> {
     RejoinAns(JoinAnswer<'a>),
     AppSKeyAns(AppSKeyAnswer<'a>),
     HomeNSAns(HomeNsAnswer),
+    UplinkAns(UplinkAnswer),
 }
 
 /// The label of a KEK, as it stands in the tables. Contracts see its bytes.
@@ -92,4 +93,16 @@ pub struct AppSKeyAnswer<'a> {
 pub struct HomeNsAnswer {
     /// HNetID: the NetID of the device's home.
     pub h_net_id: NetId,
+}
+
+/// The members of an UplinkAns of Success.
+#[derive(Drop)]
+pub struct UplinkAnswer {
+    pub dev_eui: Eui,
+    /// FCntUp: the full counter of an uplink; a join- or rejoin-request has none.
+    pub f_cnt_up: Option<u32>,
+    /// PHYPayload: the join-accept or the downlink, where there is one.
+    pub phy_payload: Option<Text>,
+    /// SessionKeyID, where the session began with a join- or rejoin-request to this desk.
+    pub session_key_id: Option<SessionKeyId>,
 }

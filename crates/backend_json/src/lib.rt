@@ -9,6 +9,7 @@ mod member;
 mod members;
 mod message;
 mod message_type;
+mod name;
 mod object;
 mod refusal;
 mod request;
@@ -18,11 +19,12 @@ mod writing;
 
 pub use answer::{
     Answer, AnswerKeys, AppSKeyAnswer, HomeNsAnswer, JoinAnswer, KekLabel, KeyEnvelope, Outcome,
+    UplinkAnswer,
 };
 pub use head::Head;
 pub use members::answer_text;
 pub use message::{Bad, Message, read_message};
 pub use message_type::{MessageType, ReceiverKind, SenderKind};
 pub use refusal::{Refusal, ResultCode};
-pub use request::{AppSKeyRequest, HomeNsRequest, JoinRequest, Request};
+pub use request::{AppSKeyRequest, HomeNsRequest, JoinRequest, Request, UplinkRequest};
 pub use session::SessionKeyId;

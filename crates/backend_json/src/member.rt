@@ -26,6 +26,7 @@ pub(crate) enum Key {
     RxDelay,
     CfList,
     SessionKeyId,
+    DataRate,
 }
 
 impl Key {
@@ -48,6 +49,7 @@ impl Key {
             Key::RxDelay => "RxDelay",
             Key::CfList => "CFList",
             Key::SessionKeyId => "SessionKeyID",
+            Key::DataRate => "DataRate",
         }
     }
 

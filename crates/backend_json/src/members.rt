@@ -2,17 +2,18 @@
 
 ghost use Rattle.std.specs.Prelude.{◌≡◌, IfOk, map, option_map};
 ghost use Rattle.backend_json.specs.declared.answer.Outcome.TheVariants.{AppSKeyAns, HomeNSAns};
-ghost use Rattle.backend_json.specs.declared.answer.Outcome.TheVariants.{Refused};
+ghost use Rattle.backend_json.specs.declared.answer.Outcome.TheVariants.{Refused, UplinkAns};
 ghost use Rattle.backend_json.specs.Answers.{answer_members, answer_version, headed, headless};
-ghost use Rattle.backend_json.specs.Answers.{join_members, key_data, members_for, named, of_type};
-ghost use Rattle.backend_json.specs.Answers.{success, text_of};
+ghost use Rattle.backend_json.specs.Answers.{hex_data, join_members, key_data, members_for, named};
+ghost use Rattle.backend_json.specs.Answers.{number_data, of_type, session_data, success, text_of};
 ghost use Rattle.backend_json.specs.Writing.{field_now, members_now, value_data};
 
+use crate::name::Name;
 use crate::object::{Member, put_object};
 use crate::value::Value;
 use crate::{
     Answer, AppSKeyAnswer, Head, HomeNsAnswer, JoinAnswer, KeyEnvelope, Outcome, Refusal,
-    ResultCode,
+    ResultCode, SessionKeyId, UplinkAnswer,
 };
 use std::alloc::Global;
 use wire_ids::{Memory, Text};
@@ -22,6 +23,7 @@ use wire_ids::{Memory, Text};
 struct Members<'a> {
     app_s_key: Option<Value<'a>>,
     dev_eui: Option<Value<'a>>,
+    f_cnt_up: Option<Value<'a>>,
     f_nwk_s_int_key: Option<Value<'a>>,
     h_net_id: Option<Value<'a>>,
     lifetime: Option<Value<'a>>,
@@ -40,25 +42,26 @@ struct Members<'a> {
 impl<'a> Members<'a> {
     // By their names, in ascending byte order.
     #[tactic(auto, unfolding(crate::specs::Answers::named))]
-    fn named(&'a self) -> [Member<'a, Value<'a>>; 15]
+    fn named(&'a self) -> [Member<'a, Value<'a>>; 16]
         ensures { map (field_now value_data) result ≡ named (members_now self.now) }
     {
         [
-            Member("AppSKey", &self.app_s_key),
-            Member("DevEUI", &self.dev_eui),
-            Member("FNwkSIntKey", &self.f_nwk_s_int_key),
-            Member("HNetID", &self.h_net_id),
-            Member("Lifetime", &self.lifetime),
-            Member("MessageType", &self.message_type),
-            Member("NwkSEncKey", &self.nwk_s_enc_key),
-            Member("PHYPayload", &self.phy_payload),
-            Member("ProtocolVersion", &self.protocol_version),
-            Member("ReceiverID", &self.receiver_id),
-            Member("Result", &self.result),
-            Member("SNwkSIntKey", &self.s_nwk_s_int_key),
-            Member("SenderID", &self.sender_id),
-            Member("SessionKeyID", &self.session_key_id),
-            Member("TransactionID", &self.transaction_id),
+            Member(Name::AppSKey, &self.app_s_key),
+            Member(Name::DevEui, &self.dev_eui),
+            Member(Name::FCntUp, &self.f_cnt_up),
+            Member(Name::FNwkSIntKey, &self.f_nwk_s_int_key),
+            Member(Name::HNetId, &self.h_net_id),
+            Member(Name::Lifetime, &self.lifetime),
+            Member(Name::MessageType, &self.message_type),
+            Member(Name::NwkSEncKey, &self.nwk_s_enc_key),
+            Member(Name::PhyPayload, &self.phy_payload),
+            Member(Name::ProtocolVersion, &self.protocol_version),
+            Member(Name::ReceiverId, &self.receiver_id),
+            Member(Name::Result, &self.result),
+            Member(Name::SNwkSIntKey, &self.s_nwk_s_int_key),
+            Member(Name::SenderId, &self.sender_id),
+            Member(Name::SessionKeyId, &self.session_key_id),
+            Member(Name::TransactionId, &self.transaction_id),
         ]
     }
 }
@@ -70,6 +73,7 @@ fn of_type<'a>(message_type: &'static str) -> Members<'a>
     Members {
         app_s_key: None,
         dev_eui: None,
+        f_cnt_up: None,
         f_nwk_s_int_key: None,
         h_net_id: None,
         lifetime: None,
@@ -173,6 +177,45 @@ fn home_ns_members<'a>(head: &'a Head, answer: &HomeNsAnswer) -> Members<'a>
     }
 }
 
+fn number<'a>(n: Option<u32>) -> Option<Value<'a>>
+    ensures { option_map value_data result ≡ option_map number_data n }
+{
+    match n {
+        Some(n) => Some(Value::Number(n)),
+        None => None,
+    }
+}
+
+fn bytes<'a>(bytes: &'a Option<Text>) -> Option<Value<'a>>
+    ensures { option_map value_data result ≡ option_map hex_data bytes.now }
+{
+    match bytes {
+        Some(bytes) => Some(Value::Hex(bytes.as_slice())),
+        None => None,
+    }
+}
+
+fn session<'a>(id: Option<SessionKeyId>) -> Option<Value<'a>>
+    ensures { option_map value_data result ≡ option_map session_data id }
+{
+    match id {
+        Some(id) => Some(Value::Session(id)),
+        None => None,
+    }
+}
+
+fn uplink_members<'a>(head: &'a Head, answer: &'a UplinkAnswer) -> Members<'a>
+    ensures { members_now result ≡ members_for head.now (UplinkAns answer.now) }
+{
+    Members {
+        dev_eui: Some(Value::Eui(answer.dev_eui)),
+        f_cnt_up: number(answer.f_cnt_up),
+        phy_payload: bytes(&answer.phy_payload),
+        session_key_id: session(answer.session_key_id),
+        ..success(head)
+    }
+}
+
 fn members_for<'a>(head: &'a Head, outcome: &'a Outcome<'a>) -> Members<'a>
     ensures { members_now result ≡ members_for head.now outcome.now }
 {
@@ -181,6 +224,7 @@ fn members_for<'a>(head: &'a Head, outcome: &'a Outcome<'a>) -> Members<'a>
         Outcome::JoinAns(answer) | Outcome::RejoinAns(answer) => join_members(head, answer),
         Outcome::AppSKeyAns(answer) => app_s_key_members(head, answer),
         Outcome::HomeNSAns(answer) => home_ns_members(head, answer),
+        Outcome::UplinkAns(answer) => uplink_members(head, answer),
     }
 }
 

@@ -7,6 +7,7 @@ ghost use Rattle.backend_json.specs.Types.{sender_of, type_named, type_row};
 pub enum SenderKind {
     Network,
     Application,
+    Gateway,
     /// No one sends it.
     Nobody,
 }
@@ -16,6 +17,8 @@ pub enum SenderKind {
 pub enum ReceiverKind {
     /// One of its JoinEUIs.
     JoinServer,
+    /// Its NetID.
+    NetworkServer,
     /// Its NetID or one of its JoinEUIs.
     Any,
 }
@@ -27,16 +30,18 @@ pub enum MessageType {
     RejoinReq,
     AppSKeyReq,
     HomeNSReq,
+    UplinkReq,
     /// A type that isn't served.
     Unknown,
 }
 
 // The types that are served.
-const SERVED: [MessageType; 4] = [
+const SERVED: [MessageType; 5] = [
     MessageType::JoinReq,
     MessageType::RejoinReq,
     MessageType::AppSKeyReq,
     MessageType::HomeNSReq,
+    MessageType::UplinkReq,
 ];
 
 // Of these types the first of this name.
@@ -55,13 +60,14 @@ impl MessageType {
         ensures sender { result.2 ≡ (type_row self).sender }
         ensures receiver { result.3 ≡ (type_row self).receiver }
     {
-        use ReceiverKind::{Any, JoinServer};
-        use SenderKind::{Application, Network, Nobody};
+        use ReceiverKind::{Any, JoinServer, NetworkServer};
+        use SenderKind::{Application, Gateway, Network, Nobody};
         match self {
             MessageType::JoinReq => ("JoinReq", "JoinAns", Network, JoinServer),
             MessageType::RejoinReq => ("RejoinReq", "RejoinAns", Network, JoinServer),
             MessageType::AppSKeyReq => ("AppSKeyReq", "AppSKeyAns", Application, JoinServer),
             MessageType::HomeNSReq => ("HomeNSReq", "HomeNSAns", Network, JoinServer),
+            MessageType::UplinkReq => ("UplinkReq", "UplinkAns", Gateway, NetworkServer),
             MessageType::Unknown => ("", "ErrorNotif", Nobody, Any),
         }
     }

@@ -3,10 +3,11 @@
 ghost use Rattle.std.specs.Prelude.{◌≡◌, ◌++◌, IfOk, OnOk, map};
 ghost use Rattle.serde_json.specs.Data.{Data, member, no_members, object};
 ghost use Rattle.serde_json.specs.Written.{comma_if, compact_text};
+ghost use Rattle.backend_json.specs.Names.{name_text};
 ghost use Rattle.backend_json.specs.Objects.{object_text};
 ghost use Rattle.backend_json.specs.Writing.{GoesOn, entry_text, field_now};
 
-use crate::writing::put_string;
+use crate::name::Name;
 use std::alloc::AllocError;
 
 /// What is written as a JSON value.
@@ -21,7 +22,7 @@ pub(crate) trait Written {
 
 /// A member of an object: its name, and its value where it is there.
 #[derive(Clone, Copy)]
-pub(crate) struct Member<'a, V>(pub &'static str, pub &'a Option<V>);
+pub(crate) struct Member<'a, V>(pub Name, pub &'a Option<V>);
 
 // Writes a comma where a member stands before.
 fn put_comma(out: &mut Vec<u8>, later: bool) -> Result<(), AllocError>
@@ -35,12 +36,11 @@ fn put_comma(out: &mut Vec<u8>, later: bool) -> Result<(), AllocError>
 
 // Writes a name, the colon and the value.
 #[tactic(auto, unfolding(crate::specs::Writing::entry_text))]
-fn put_entry<V: Written>(out: &mut Vec<u8>, name: &str, value: &V) -> Result<(), AllocError>
+fn put_entry<V: Written>(out: &mut Vec<u8>, name: Name, value: &V) -> Result<(), AllocError>
     ensures { OnOk result (out.new.items
-        ≡ out.old.items ++ entry_text name.now (V.json value.now)) }
+        ≡ out.old.items ++ entry_text (name_text name) (V.json value.now)) }
 {
-    put_string(out, name.as_bytes())?;
-    out.extend_from_slice(b":")?;
+    out.extend_from_slice(name.lead().as_bytes())?;
     value.put(out)
 }
 
@@ -82,14 +82,14 @@ pub(crate) fn put_object<V: Written>(
 #[tactic(auto, using(crate::proofs::Objects::pair))]
 pub(crate) fn put_pair<V: Written, W: Written>(
     out: &mut Vec<u8>,
-    first: &str,
+    first: Name,
     value: &V,
-    second: &str,
+    second: Name,
     other: &W,
 ) -> Result<(), AllocError>
     ensures { OnOk result (out.new.items ≡ out.old.items ++ compact_text (object
-        (member first.now (V.json value.now)
-        (member second.now (W.json other.now) no_members)))) }
+        (member (name_text first) (V.json value.now)
+        (member (name_text second) (W.json other.now) no_members)))) }
 {
     out.extend_from_slice(b"{")?;
     put_entry(out, first, value)?;

@@ -15,6 +15,7 @@ pub enum ResultCode {
     Deferred,
     FrameSizeError,
     UnknownDevEui,
+    UnknownDevAddr,
     ActivationDisallowed,
     JoinReqFailed,
     MicFailed,
@@ -35,6 +36,7 @@ impl ResultCode {
             ResultCode::Deferred => "Deferred",
             ResultCode::FrameSizeError => "FrameSizeError",
             ResultCode::UnknownDevEui => "UnknownDevEUI",
+            ResultCode::UnknownDevAddr => "UnknownDevAddr",
             ResultCode::ActivationDisallowed => "ActivationDisallowed",
             ResultCode::JoinReqFailed => "JoinReqFailed",
             ResultCode::MicFailed => "MICFailed",
@@ -65,6 +67,8 @@ pub enum Refusal {
     Frame,
     /// There is no such device.
     Device,
+    /// No context has the frame's address.
+    Address,
     /// The sender isn't the device's home.
     Home,
     /// The device is suspended.
@@ -77,6 +81,8 @@ pub enum Refusal {
     Counter,
     /// The device has no further JoinNonce.
     Spent,
+    /// The network has no further address for the device.
+    AddressesSpent,
     /// No session has this SessionKeyID.
     Session,
     /// The ask isn't open any more.
@@ -107,12 +113,14 @@ impl Refusal {
             Refusal::Size => (Some(8), ResultCode::FrameSizeError, "size"),
             Refusal::Frame => (Some(9), ResultCode::MalformedRequest, "frame"),
             Refusal::Device => (Some(10), ResultCode::UnknownDevEui, "device"),
+            Refusal::Address => (Some(11), ResultCode::UnknownDevAddr, "address"),
             Refusal::Home => (Some(12), ResultCode::ActivationDisallowed, "home"),
             Refusal::Suspended => (Some(13), ResultCode::ActivationDisallowed, "suspended"),
             Refusal::Eui => (Some(18), ResultCode::JoinReqFailed, "eui"),
             Refusal::Mic => (Some(19), ResultCode::MicFailed, "mic"),
             Refusal::Counter => (Some(20), ResultCode::JoinReqFailed, "counter"),
             Refusal::Spent => (Some(21), ResultCode::JoinReqFailed, "spent"),
+            Refusal::AddressesSpent => (Some(22), ResultCode::Other, "addresses spent"),
             Refusal::Session => (Some(27), ResultCode::Other, "session"),
             Refusal::PeerLate => (None, ResultCode::Other, "peer late"),
             Refusal::PeerFailed => (None, ResultCode::Other, "peer failed"),

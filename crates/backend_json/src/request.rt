@@ -1,7 +1,7 @@
 ghost use Rattle.serde_json.specs.View.{view};
 ghost use Rattle.backend_json.specs.Members.{GivesMember};
 ghost use Rattle.backend_json.specs.Requests.{app_s_key_req_in, home_ns_req_in, join_req_in};
-ghost use Rattle.backend_json.specs.Requests.{radio_in, request_in};
+ghost use Rattle.backend_json.specs.Requests.{radio_in, request_in, uplink_req_in};
 
 use crate::form::{Below, Byte, Bytes, CfList};
 use crate::member::{Gap, Key, needed, optional};
@@ -37,6 +37,15 @@ pub struct HomeNsRequest {
     pub dev_eui: Eui,
 }
 
+/// The members of an UplinkReq.
+#[derive(Drop)]
+pub struct UplinkRequest {
+    /// PHYPayload, of any number of bytes.
+    pub phy_payload: Text,
+    /// DataRate, from 0 to 7.
+    pub data_rate: u8,
+}
+
 /// What a message asks: the members that its type has beside the head.
 #[derive(Drop)]
 pub enum Request {
@@ -44,6 +53,7 @@ pub enum Request {
     RejoinReq(JoinRequest),
     AppSKeyReq(AppSKeyRequest),
     HomeNSReq(HomeNsRequest),
+    UplinkReq(UplinkRequest),
     /// Of a type that isn't served no further member was read.
     Unknown,
 }
@@ -104,6 +114,18 @@ fn home_ns_req(alloc: Global, value: &Value) -> Result<HomeNsRequest, Gap>
     Ok(HomeNsRequest { dev_eui })
 }
 
+#[tactic(auto, unfolding(crate::specs::Requests::uplink_req_in))]
+fn uplink_req(alloc: Global, value: &Value) -> Result<UplinkRequest, Gap>
+    ensures { GivesMember result (uplink_req_in (view value.now)) }
+{
+    let Bytes(phy_payload) = needed(alloc, value, Key::PhyPayload)?;
+    let data_rate: Below<8> = needed(alloc, value, Key::DataRate)?;
+    Ok(UplinkRequest {
+        phy_payload,
+        data_rate: data_rate.0,
+    })
+}
+
 #[tactic(auto, unfolding(crate::specs::Requests::request_in))]
 pub(crate) fn read_request(alloc: Global, kind: MessageType, value: &Value) -> Result<Request, Gap>
     ensures { GivesMember result (request_in kind (view value.now)) }
@@ -113,6 +135,7 @@ pub(crate) fn read_request(alloc: Global, kind: MessageType, value: &Value) -> R
         MessageType::RejoinReq => Request::RejoinReq(join_req(alloc, value)?),
         MessageType::AppSKeyReq => Request::AppSKeyReq(app_s_key_req(alloc, value)?),
         MessageType::HomeNSReq => Request::HomeNSReq(home_ns_req(alloc, value)?),
+        MessageType::UplinkReq => Request::UplinkReq(uplink_req(alloc, value)?),
         MessageType::Unknown => Request::Unknown,
     })
 }

@@ -7,6 +7,7 @@ ghost use Rattle.backend_json.specs.Answers.{key_data, peer_digits, result_data}
 ghost use Rattle.backend_json.specs.Answers.{sender_digits, session_bytes};
 ghost use Rattle.backend_json.specs.Writing.{part_data, value_data};
 
+use crate::name::Name;
 use crate::object::{Written, put_pair};
 use crate::writing::{put_hex, put_number, put_string, put_strings};
 use crate::{KeyEnvelope, ResultCode, SessionKeyId};
@@ -97,7 +98,7 @@ fn put_key(out: &mut Vec<u8>, key: &KeyEnvelope<'_>) -> Result<(), AllocError>
 {
     let aes_key = Part::Hex(&key.aes_key);
     let kek_label = Part::Text(key.kek_label.as_slice(), b"");
-    put_pair(out, "AESKey", &aes_key, "KEKLabel", &kek_label)
+    put_pair(out, Name::AesKey, &aes_key, Name::KekLabel, &kek_label)
 }
 
 #[tactic(auto, unfolding(crate::specs::Answers::result_data))]
@@ -112,7 +113,13 @@ fn put_result<'a>(
 {
     let description = Part::Text(words, said);
     let result_code = Part::Text(code.text().as_bytes(), b"");
-    put_pair(out, "Description", &description, "ResultCode", &result_code)
+    put_pair(
+        out,
+        Name::Description,
+        &description,
+        Name::ResultCode,
+        &result_code,
+    )
 }
 
 impl Written for Value<'_> {

@@ -168,7 +168,7 @@ left_by c m f dev kept seed devices is is_kept new = record {
 }
 
 change_left : (c : Config) (m : Machine) (sender : Sender) (f : Found) (dev : Eui) (used : Option UsedSeed) (counter : ℕ) → StandsAt c m dev f
-    → Left c (on_change sender (change_by used f.device (seed_of counter (f.kept.join_nonce + 1) f.kept)) m) f (seed_of counter (f.kept.join_nonce + 1) f.kept)
+    → Left c (on_change sender (change_by used f.device (seed_of counter (f.kept.join_nonce + 1) f.kept) None) m) f (seed_of counter (f.kept.join_nonce + 1) f.kept)
 unfolding on_change
 change_left c m sender f dev None counter is =
     let nonce = f.kept.join_nonce + 1 in
@@ -191,7 +191,7 @@ kind_fields c keys activation at row facts seed sender known there =
 module _ (c : Config) (keys : List RootKeys) (m : Machine) (now : ℕ) (head : Head) (valid : All (Belongs c.desk.net_id c.networks c.applications) c.devices) (known : is_known c head.sender ≡ true) where
   -- what a step leaves of the device of a request
   step_left : (activation : Activation) (request : JoinRequest) (up : JoinUp) (f : Found) → IsJoin c (nwk_at keys) m activation head request up f
-      → Left c (on_change head.sender (change_of f.device (step_of (nwk_at keys f.device) request.phy_payload up f.kept)) m) f (next_seed up f.kept)
+      → Left c (on_change head.sender (change_of f.device (step_of (nwk_at keys f.device) request.phy_payload up f.kept) None) m) f (next_seed up f.kept)
   step_left activation request up f is =
       change_left c m head.sender f request.dev_eui (step_of (nwk_at keys f.device) request.phy_payload up f.kept).used (counter_of up) (stands_at c m request.dev_eui f is.is_found)
 

@@ -50,9 +50,9 @@ pub accepted_said : (c : Config) (nwk app : ℕ → List ℕ) (m : Machine) (act
     → first_rule (join_rules c nwk m activation head request) ≡ None → join_up_of request.phy_payload ≡ Some up
     → (kept : Device) × (found_of c m request.dev_eui ≡ Some (record { device = number; row = row; kept = kept })) × (is_spent kept ≡ false) × (step ≡ step_of (nwk number) request.phy_payload up kept)
     → members ≡ join_members c (nwk number) (app number) activation head request up row step.seed
-    → (let d : JsDecision = decision.Accept (Headed head (outcome_of activation members)) (change_of number step) in
+    → (let d : JsDecision = decision.Accept (Headed head (outcome_of activation members)) (change_of number step None) in
     d ≡ by_rules (refuses head) (join_rules c nwk m activation head request) (join_success c nwk app m activation head request))
 accepted_said c nwk app m activation head request up number row step members none is_up found is_members =
     let made : JsDecision = accepted c nwk app activation head request up (record { device = number; row = row; kept = found.0 }) in
-    let same : decision.Accept (Headed head (outcome_of activation members)) (change_of number step) ≡ made = rw (is_members, found.3) refl in
+    let same : decision.Accept (Headed head (outcome_of activation members)) (change_of number step None) ≡ made = rw (is_members, found.3) refl in
     same ∙ (sym (success_is c nwk app m activation head request up number row found.0 is_up found.1 found.2) ∙ sym (none_said (refuses head) (join_rules c nwk m activation head request) (join_success c nwk app m activation head request) none))

@@ -9,7 +9,7 @@ use Rattle.backend_json.specs.declared.head.Head.{Head}
 use Rattle.backend_json.specs.declared.request.AppSKeyRequest.{AppSKeyRequest}
 use Rattle.backend_json.specs.declared.request.JoinRequest.{JoinRequest}
 use Rattle.backend_json.specs.declared.request.Request.{Request}
-use Rattle.backend_json.specs.declared.request.Request.TheVariants.{AppSKeyReq, HomeNSReq, JoinReq, RejoinReq, Unknown}
+use Rattle.backend_json.specs.declared.request.Request.TheVariants.{AppSKeyReq, HomeNSReq, JoinReq, RejoinReq, Unknown, UplinkReq}
 use Rattle.entry_codec.specs.Devices.{lapsed}
 use Rattle.entry_codec.specs.Machine.{Machine, lapse}
 use Rattle.entry_codec.specs.declared.device.Device.{Device}
@@ -23,7 +23,7 @@ use Rattle.js_core.specs.Replies.{JsDecision, app_s_key_success_at, home_ns_succ
 use Rattle.js_core.specs.Rules.{app_s_key_rules_at, by_rules, home_ns_rules_at, join_rules, join_rules_at}
 use Rattle.js_core.specs.Steps.{seed_place}
 
-abbrev found_lapsed : ℕ → Found → Found
+abbrev pub found_lapsed : ℕ → Found → Found
 found_lapsed at f = record f { kept = lapsed at f.kept }
 
 with_lapsed : (at device : ℕ) (row : Option DeviceRow) (kept : Option Device) → found_with device row (option_map (lapsed at) kept) ≡ option_map (found_lapsed at) (found_with device row kept)
@@ -38,7 +38,7 @@ at_lapsed c m at (Some device) =
     ap (found_with device (slice_get c.devices device)) (slice_get-map (lapsed at) m.devices device)
     ∙ with_lapsed at device (slice_get c.devices device) (slice_get m.devices device)
 
-of_lapsed : (c : Config) (m : Machine) (at : ℕ) (dev : Eui) → found_of c (lapse at m) dev ≡ option_map (found_lapsed at) (found_of c m dev)
+pub of_lapsed : (c : Config) (m : Machine) (at : ℕ) (dev : Eui) → found_of c (lapse at m) dev ≡ option_map (found_lapsed at) (found_of c m dev)
 unfolding found_of
 of_lapsed c m at dev = at_lapsed c m at (device_place dev c.devices)
 
@@ -79,4 +79,5 @@ module _ (c : Config) (nwk app : ℕ → List ℕ) (at : ℕ) (head : Head) wher
       ap (join_at by.Rejoin request (join_up_of request.phy_payload)) (of_lapsed c m at request.dev_eui) ∙ join_lapsed by.Rejoin request _ _
   lapse_unread m (AppSKeyReq request) = ap (app_s_key_at request) (of_lapsed c m at request.dev_eui) ∙ app_s_key_lapsed request _
   lapse_unread m (HomeNSReq request) = ap home_ns_at (of_lapsed c m at request.dev_eui) ∙ home_ns_lapsed _
+  lapse_unread m (UplinkReq request) = refl
   lapse_unread m Unknown = refl

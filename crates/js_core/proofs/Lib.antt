@@ -1,6 +1,7 @@
 mod Sets
 mod Sessions
 pub mod Lapsing
+pub mod Homes
 mod JoinFrames
 pub mod Causes
 mod Order

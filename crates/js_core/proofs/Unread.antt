@@ -11,7 +11,7 @@ use Rattle.backend_json.specs.declared.head.Head.{Head}
 use Rattle.backend_json.specs.declared.request.AppSKeyRequest.{AppSKeyRequest}
 use Rattle.backend_json.specs.declared.request.JoinRequest.{JoinRequest}
 use Rattle.backend_json.specs.declared.request.Request.{Request}
-use Rattle.backend_json.specs.declared.request.Request.TheVariants.{AppSKeyReq, HomeNSReq, JoinReq, RejoinReq, Unknown}
+use Rattle.backend_json.specs.declared.request.Request.TheVariants.{AppSKeyReq, HomeNSReq, JoinReq, RejoinReq, Unknown, UplinkReq}
 use Rattle.entry_codec.specs.Machine.{Machine}
 use Rattle.entry_codec.specs.declared.device.Device.{Device}
 use Rattle.entry_codec.specs.declared.device.KeptSeed.{KeptSeed}
@@ -45,7 +45,7 @@ place_bare dev rows = position-map (λ (r : DeviceRow). r.dev_eui.0 == dev.0) er
 
 -- ---- the device that is found
 
-abbrev found_bare : Found → Found
+abbrev pub found_bare : Found → Found
 found_bare f = record f { row = erased f.row }
 
 with_bare : (device : ℕ) (row : Option DeviceRow) (kept : Option Device) → found_with device (option_map erased row) kept ≡ option_map found_bare (found_with device row kept)
@@ -59,7 +59,7 @@ at_bare c m (Some device) =
     ap (λ (row : Option DeviceRow). found_with device row (slice_get m.devices device)) (slice_get-map erased c.devices device)
     ∙ with_bare device (slice_get c.devices device) (slice_get m.devices device)
 
-of_bare : (c : Config) (m : Machine) (dev : Eui) → found_of (bare c) m dev ≡ option_map found_bare (found_of c m dev)
+pub of_bare : (c : Config) (m : Machine) (dev : Eui) → found_of (bare c) m dev ≡ option_map found_bare (found_of c m dev)
 unfolding found_of
 of_bare c m dev = ap (found_at (bare c) m) (place_bare dev c.devices) ∙ at_bare c m (device_place dev c.devices)
 
@@ -106,6 +106,7 @@ module _ (c : Config) (nwk app : ℕ → List ℕ) (head : Head) where
       ap (join_at (bare c) by.Rejoin request (join_up_of request.phy_payload)) (of_bare c m request.dev_eui) ∙ join_bare by.Rejoin request _ _
   decided_bare m (AppSKeyReq request) = ap (app_s_key_at (bare c) request) (of_bare c m request.dev_eui) ∙ app_s_key_bare request _
   decided_bare m (HomeNSReq request) = ap home_ns_at (of_bare c m request.dev_eui) ∙ home_ns_bare _
+  decided_bare m (UplinkReq request) = refl
   decided_bare m Unknown = refl
 
 -- two tables that are the same but for AppKeys

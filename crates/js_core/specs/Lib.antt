@@ -3,6 +3,7 @@ pub mod Found
 pub mod Frames
 pub mod Steps
 pub mod Rules
+pub mod Home
 pub mod Replies
 pub mod Agreement
 pub mod AppKey

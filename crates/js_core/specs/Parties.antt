@@ -29,8 +29,11 @@ is_known c (sender.Party id) = is_some (application_named c id) || has_gateway i
 -- the receiver is the desk, by a name of this kind
 unfoldable pub reaches : Config → ReceiverKind → PeerId → Bool
 reaches c to.JoinServer (receiver.Network net) = false
+reaches c to.JoinServer (receiver.JoinServer join_eui) = has_eui join_eui c.desk.join_euis
+reaches c to.NetworkServer (receiver.Network net) = net == c.desk.net_id
+reaches c to.NetworkServer (receiver.JoinServer join_eui) = false
 reaches c to.Any (receiver.Network net) = net == c.desk.net_id
-reaches c kind (receiver.JoinServer join_eui) = has_eui join_eui c.desk.join_euis
+reaches c to.Any (receiver.JoinServer join_eui) = has_eui join_eui c.desk.join_euis
 
 -- the sender is of this kind
 unfoldable pub may_send : Config → SenderKind → Sender → Bool
@@ -38,6 +41,8 @@ may_send c from.Network (sender.Network net) = true
 may_send c from.Network (sender.Party id) = false
 may_send c from.Application (sender.Network net) = false
 may_send c from.Application (sender.Party id) = is_some (application_named c id)
+may_send c from.Gateway (sender.Network net) = false
+may_send c from.Gateway (sender.Party id) = has_gateway id c.gateways
 may_send c from.Nobody sender = false
 
 -- the network of this NetID

@@ -31,13 +31,14 @@ use Rattle.backend_json.specs.declared.refusal.Refusal.TheVariants as cause
 use Rattle.backend_json.specs.declared.request.AppSKeyRequest.{AppSKeyRequest}
 use Rattle.backend_json.specs.declared.request.JoinRequest.{JoinRequest}
 use Rattle.backend_json.specs.declared.request.Request.{Request}
-use Rattle.backend_json.specs.declared.request.Request.TheVariants.{AppSKeyReq, HomeNSReq, JoinReq, RejoinReq, Unknown}
+use Rattle.backend_json.specs.declared.request.Request.TheVariants.{AppSKeyReq, HomeNSReq, JoinReq, RejoinReq, Unknown, UplinkReq}
 use Rattle.entitlement.specs.declared.roles.AnswerKind.{AnswerKind}
 use Rattle.entitlement.specs.declared.roles.AnswerKind.TheVariants as answer
 use Rattle.entitlement.specs.declared.roles.Facts.{Facts}
 use Rattle.entitlement.specs.Keys.{Entry, FNwkSIntKey, SNwkSIntKey, NwkSEncKey, AppSKey, entitled}
 use Rattle.entitlement.specs.Roles.{role}
 use Rattle.entries.specs.declared.change.Change.{Change}
+use Rattle.entries.specs.declared.change.OwnContext.{OwnContext}
 use Rattle.entry_codec.specs.Machine.{Machine}
 use Rattle.entry_codec.specs.declared.device.Device as device
 use Rattle.entry_codec.specs.declared.device.KeptSeed.{KeptSeed}
@@ -120,15 +121,23 @@ accept_kind (Join join_eui dev_eui nonce mic) = accept.Join
 accept_kind (Rejoin02 kind net dev_eui count mic) = rejoin_kind kind
 accept_kind (Rejoin1 join_eui dev_eui count mic) = accept.Rejoin1
 
-abbrev pub accept_of : JoinUp → JoinRequest → DeviceRow → Seed → Accept
-accept_of up request row seed = record {
+-- the join-accept with the address and the radio parameters of this context, in the name of the device's home
+abbrev pub home_accept : JoinUp → DeviceRow → Seed → OwnContext → Accept
+home_accept up row seed own = record {
   kind = accept_kind up;
   dev = row.dev_eui;
   seed = seed;
   net = row.home;
-  addr = request.dev_addr;
-  radio = request.radio;
+  addr = own.dev_addr;
+  radio = own.radio;
 }
+
+-- the context that the request's network gives the device
+abbrev pub context_of : JoinRequest → OwnContext
+context_of request = record { dev_addr = request.dev_addr; radio = request.radio }
+
+abbrev pub accept_of : JoinUp → JoinRequest → DeviceRow → Seed → Accept
+accept_of up request row seed = home_accept up row seed (context_of request)
 
 abbrev pub answer_kind : Activation → AnswerKind
 answer_kind by.Join = answer.JoinAns
@@ -150,7 +159,7 @@ join_members c nwk app activation head request up row seed = record {
 abbrev pub accepted : Config → (ℕ → List ℕ) → (ℕ → List ℕ) → Activation → Head → JoinRequest → JoinUp → Found → JsDecision
 accepted c nwk app activation head request up f =
     let s = step.step_of (nwk f.device) request.phy_payload up f.kept in
-    decision.Accept (Headed head (outcome_of activation (join_members c (nwk f.device) (app f.device) activation head request up f.row s.seed))) (step.change_of f.device s)
+    decision.Accept (Headed head (outcome_of activation (join_members c (nwk f.device) (app f.device) activation head request up f.row s.seed))) (step.change_of f.device s None)
 
 -- where no rule holds, there are a frame and a device with a next JoinNonce
 abbrev pub join_success_at : Config → (ℕ → List ℕ) → (ℕ → List ℕ) → Activation → Head → JoinRequest → Option JoinUp → Option Found → JsDecision
@@ -200,6 +209,7 @@ success_of c nwk app m head (JoinReq request) = join_success c nwk app m by.Join
 success_of c nwk app m head (RejoinReq request) = join_success c nwk app m by.Rejoin head request
 success_of c nwk app m head (AppSKeyReq request) = app_s_key_success_at c app head request (found_of c m request.dev_eui)
 success_of c nwk app m head (HomeNSReq request) = home_ns_success_at head (found_of c m request.dev_eui)
+success_of c nwk app m head (UplinkReq request) = refuses head cause.«Type»
 success_of c nwk app m head Unknown = refuses head cause.«Type»
 
 -- from the rule of the frame's size on

@@ -10,7 +10,7 @@ use Rattle.backend_json.specs.declared.head.Head.{Head}
 use Rattle.backend_json.specs.declared.request.JoinRequest.{JoinRequest}
 use Rattle.backend_json.specs.declared.request.AppSKeyRequest.{AppSKeyRequest}
 use Rattle.backend_json.specs.declared.request.Request.{Request}
-use Rattle.backend_json.specs.declared.request.Request.TheVariants.{AppSKeyReq, HomeNSReq, JoinReq, RejoinReq, Unknown}
+use Rattle.backend_json.specs.declared.request.Request.TheVariants.{AppSKeyReq, HomeNSReq, JoinReq, RejoinReq, Unknown, UplinkReq}
 use Rattle.backend_json.specs.declared.refusal.Refusal.{Refusal}
 use Rattle.backend_json.specs.declared.refusal.Refusal.TheVariants.{«Type», Size, Frame, Device, Home, Suspended, Eui, Mic, Counter, Spent, Session}
 use Rattle.entry_codec.specs.Machine.{Machine}
@@ -96,16 +96,17 @@ app_s_key_rules_at head request found =
 abbrev pub home_ns_rules_at : Option Found → List (Rule Refusal)
 home_ns_rules_at found = record { cause = Device; holds = is_none found } ∷ []
 
--- no one may send a message of a type that isn't served
-abbrev pub unknown_rules : List (Rule Refusal)
-unknown_rules = record { cause = «Type»; holds = true } ∷ []
+-- what isn't a join server's to answer
+abbrev pub other_rules : List (Rule Refusal)
+other_rules = record { cause = «Type»; holds = true } ∷ []
 
 abbrev pub rules_of : Config → (ℕ → List ℕ) → Machine → Head → Request → List (Rule Refusal)
 rules_of c nwk m head (JoinReq request) = join_rules c nwk m by.Join head request
 rules_of c nwk m head (RejoinReq request) = join_rules c nwk m by.Rejoin head request
 rules_of c nwk m head (AppSKeyReq request) = app_s_key_rules_at head request (found_of c m request.dev_eui)
 rules_of c nwk m head (HomeNSReq request) = home_ns_rules_at (found_of c m request.dev_eui)
-rules_of c nwk m head Unknown = unknown_rules
+rules_of c nwk m head (UplinkReq request) = other_rules
+rules_of c nwk m head Unknown = other_rules
 
 -- the first rule that holds is answered, and else the request succeeds
 abbrev pub by_rules : {C D : Type 0} → (C → D) → List (Rule C) → D → D
@@ -126,6 +127,7 @@ rule_numbers (JoinReq request) = 8 ∷ 9 ∷ 10 ∷ 12 ∷ 13 ∷ 18 ∷ 19 ∷ 
 rule_numbers (RejoinReq request) = 8 ∷ 9 ∷ 10 ∷ 12 ∷ 13 ∷ 18 ∷ 19 ∷ 20 ∷ 21 ∷ []
 rule_numbers (AppSKeyReq request) = 10 ∷ 27 ∷ []
 rule_numbers (HomeNSReq request) = 10 ∷ []
+rule_numbers (UplinkReq request) = 5 ∷ []
 rule_numbers Unknown = 5 ∷ []
 
 -- the rules of each message stand in the order of that table

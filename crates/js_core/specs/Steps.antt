@@ -10,6 +10,7 @@ use Rattle.join_frames.specs.declared.join_up.JoinUp.TheVariants.{Join, Rejoin02
 use Rattle.agreements.specs.declared.rows.DeviceRow.{DeviceRow}
 use Rattle.entries.specs.declared.change.Change.{Change}
 use Rattle.entries.specs.declared.change.Change.TheVariants as change
+use Rattle.entries.specs.declared.change.OwnContext.{OwnContext}
 use Rattle.entries.specs.declared.used_seed.UsedSeed.{UsedSeed}
 use Rattle.entries.specs.declared.used_seed.UsedSeed.TheVariants as used
 use Rattle.entry_codec.specs.Devices.{seed_of}
@@ -85,10 +86,10 @@ next_seed up kept = seed_of (counter_of up) (kept.join_nonce + 1) kept
 abbrev pub step_of : List ℕ → List ℕ → JoinUp → Device → JoinStep
 step_of nwk frame up kept = record { used = used_seed nwk frame up kept; seed = next_seed up kept }
 
-abbrev pub change_by : Option UsedSeed → ℕ → Seed → Change
-change_by None device seed = change.Join (record { device = device; counter = seed.counter; join_nonce = seed.nonce; own = None })
-change_by (Some u) device seed = change.Rejoin (record { device = device; used = u; counter = seed.counter; join_nonce = seed.nonce; own = None })
+abbrev pub change_by : Option UsedSeed → ℕ → Seed → Option OwnContext → Change
+change_by None device seed own = change.Join (record { device = device; counter = seed.counter; join_nonce = seed.nonce; own = own })
+change_by (Some u) device seed own = change.Rejoin (record { device = device; used = u; counter = seed.counter; join_nonce = seed.nonce; own = own })
 
--- what it changes of the device with this number, which gets no context of this desk
-abbrev pub change_of : ℕ → JoinStep → Change
-change_of device step = change_by step.used device step.seed
+-- what it changes of the device with this number, which gets this context of the desk, or none
+abbrev pub change_of : ℕ → JoinStep → Option OwnContext → Change
+change_of device step own = change_by step.used device step.seed own

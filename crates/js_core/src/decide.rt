@@ -5,15 +5,17 @@ ghost use Rattle.wire_ids.specs.Rules.{first_rule};
 ghost use Rattle.key_vault.specs.Table.{app_at, nwk_at};
 ghost use Rattle.entitlement.specs.Keys.{entries_of};
 ghost use Rattle.entry_codec.specs.Machine.{lapse};
+ghost use Rattle.backend_json.specs.declared.refusal.Refusal.TheVariants.{«Type» as wrong_type};
 ghost use Rattle.js_core.specs.Found.{found_of};
-ghost use Rattle.js_core.specs.Replies.{accept_kind, accept_of, answer_kind, app_s_key_answer};
+ghost use Rattle.js_core.specs.Replies.{accept_of, answer_kind, app_s_key_answer};
 ghost use Rattle.js_core.specs.Replies.{app_s_key_success_at, entries_for, home_ns_success_at};
 ghost use Rattle.js_core.specs.Replies.{join_members, join_success, js_decided, no_facts};
-ghost use Rattle.js_core.specs.Replies.{outcome_of, refused, refuses, rejoin_kind, success_of};
+ghost use Rattle.js_core.specs.Replies.{outcome_of, refused, refuses, success_of};
 ghost use Rattle.js_core.specs.Rules.{app_s_key_rules_at, by_rules, home_ns_rules_at, join_rules};
 ghost use Rattle.js_core.specs.Rules.{rules_of};
 
 use crate::found::find;
+use crate::home::home_accept;
 use crate::keys::{answer_keys, application_key};
 use crate::rules::{JoinTarget, app_s_key_target, join_target};
 use crate::step::change;
@@ -24,9 +26,9 @@ use backend_json::{
     JoinRequest, Message, Outcome, Refusal, Request, SessionKeyId,
 };
 use entitlement::{AnswerKind, Facts, KeySet, keys_for, role_of};
-use entries::Change;
+use entries::{Change, OwnContext};
 use entry_codec::State;
-use join_frames::{Accept, AcceptKind, JoinUp, accept_bytes};
+use join_frames::{Accept, JoinUp, accept_bytes};
 use key_vault::{BlockFn, Vault};
 use std::alloc::Global;
 use wire_ids::{Decision, Memory, Moment, Seed, Text};
@@ -75,33 +77,14 @@ fn entitled_set(
 
 // ---- joins and rejoins
 
-fn accept_kind(up: &JoinUp) -> AcceptKind
-    ensures { result ≡ accept_kind up.now }
-{
-    match up {
-        JoinUp::Join { .. } => AcceptKind::Join,
-        JoinUp::Rejoin02 { kind, .. } => {
-            if *kind == 0 {
-                AcceptKind::Rejoin0
-            } else {
-                AcceptKind::Rejoin2
-            }
-        }
-        JoinUp::Rejoin1 { .. } => AcceptKind::Rejoin1,
-    }
-}
-
 fn accept_of(up: &JoinUp, request: &JoinRequest, row: &DeviceRow, seed: Seed) -> Accept
     ensures { result ≡ accept_of up.now request.now row.now seed }
 {
-    Accept {
-        kind: accept_kind(up),
-        dev: row.dev_eui,
-        seed,
-        net: row.home,
-        addr: request.dev_addr,
+    let own = OwnContext {
+        dev_addr: request.dev_addr,
         radio: request.radio,
-    }
+    };
+    home_accept(up, row, seed, &own)
 }
 
 fn answer_kind(activation: Activation) -> AnswerKind
@@ -181,7 +164,7 @@ fn join_decision<'a, E: BlockFn, D: BlockFn>(
         Ok(target) => {
             let members = join_members(alloc, tables, vault, activation, &head, request, &target)?;
             let outcome = outcome_of(activation, members);
-            let change = change(target.number, &target.step);
+            let change = change(target.number, &target.step, None);
             Ok(Decision::Accept(Answer::Headed { head, outcome }, change))
         }
     }
@@ -225,41 +208,48 @@ fn app_s_key_decision<'a, E: BlockFn, D: BlockFn>(
     state: &State,
     head: Head,
     request: &AppSKeyRequest,
-) -> JsDecision<'a>
+) -> Result<JsDecision<'a>, Memory>
     requires keys { length vault.now ≡ length tables.now.devices }
-    ensures { result ≡ by_rules (refuses head) (app_s_key_rules_at head request.now
+    ensures { IfOk result (λ d. d ≡ by_rules (refuses head) (app_s_key_rules_at head request.now
         (found_of tables.now state.now.now request.now.dev_eui))
         (app_s_key_success_at tables.now (app_at vault.now) head request.now
-        (found_of tables.now state.now.now request.now.dev_eui)) }
+        (found_of tables.now state.now.now request.now.dev_eui))) }
 {
     match app_s_key_target(tables, state, &head, request) {
-        Err(refusal) => Decision::Reply(refused(head, refusal)),
+        Err(refusal) => Ok(Decision::Reply(refused(head, refusal))),
         Ok((found, kept)) => {
             let number = found.number;
             let row = found.row;
             let answer = app_s_key_answer(tables, vault, head, request, number, row, &kept.seed);
-            Decision::Reply(answer)
+            Ok(Decision::Reply(answer))
         }
     }
 }
 
 // What a HomeNSReq comes to.
-fn home_ns_decision(
+fn home_ns_decision<'a>(
     tables: &Tables,
     state: &State,
     head: Head,
     request: &HomeNsRequest,
-) -> JsDecision<'static>
-    ensures { result ≡ by_rules (refuses head)
+) -> Result<JsDecision<'a>, Memory>
+    ensures { IfOk result (λ d. d ≡ by_rules (refuses head)
         (home_ns_rules_at (found_of tables.now state.now.now request.now.dev_eui))
-        (home_ns_success_at head (found_of tables.now state.now.now request.now.dev_eui)) }
+        (home_ns_success_at head (found_of tables.now state.now.now request.now.dev_eui))) }
 {
     let Some(found) = find(tables, state, request.dev_eui) else {
-        return Decision::Reply(refused(head, Refusal::Device));
+        return Ok(Decision::Reply(refused(head, Refusal::Device)));
     };
     let h_net_id = found.row.home;
     let outcome = Outcome::HomeNSAns(HomeNsAnswer { h_net_id });
-    Decision::Reply(Answer::Headed { head, outcome })
+    Ok(Decision::Reply(Answer::Headed { head, outcome }))
+}
+
+// What a request comes to that isn't a join server's.
+fn other_decision<'a>(head: Head) -> Result<JsDecision<'a>, Memory>
+    ensures { IfOk result (λ d. d ≡ refuses head wrong_type) }
+{
+    Ok(Decision::Reply(refused(head, Refusal::Type)))
 }
 
 // ---- all requests
@@ -271,24 +261,16 @@ fn decide<'a, E: BlockFn, D: BlockFn>(
     tables: &'a Tables,
     vault: &Vault<E, D>,
     state: &State,
-    message: Message,
+    head: Head,
+    request: &Request,
 ) -> Result<JsDecision<'a>, Memory>
     requires keys { length vault.now ≡ length tables.now.devices }
     ensures { IfOk result (λ d. d ≡ js_decided tables.now (nwk_at vault.now) (app_at vault.now)
-        state.now.now message.head message.request) }
+        state.now.now head request.now) }
 {
-    let Message { head, request } = message;
     match request {
         Request::JoinReq(request) => {
-            join_decision(
-                alloc,
-                tables,
-                vault,
-                state,
-                Activation::Join,
-                head,
-                &request,
-            )
+            join_decision(alloc, tables, vault, state, Activation::Join, head, request)
         }
         Request::RejoinReq(request) => {
             join_decision(
@@ -298,20 +280,19 @@ fn decide<'a, E: BlockFn, D: BlockFn>(
                 state,
                 Activation::Rejoin,
                 head,
-                &request,
+                request,
             )
         }
-        Request::AppSKeyReq(request) => {
-            Ok(app_s_key_decision(tables, vault, state, head, &request))
-        }
-        Request::HomeNSReq(request) => Ok(home_ns_decision(tables, state, head, &request)),
-        Request::Unknown => Ok(Decision::Reply(refused(head, Refusal::Type))),
+        Request::AppSKeyReq(request) => { app_s_key_decision(tables, vault, state, head, request) }
+        Request::HomeNSReq(request) => home_ns_decision(tables, state, head, request),
+        Request::UplinkReq(_) => other_decision(head),
+        Request::Unknown => other_decision(head),
     }
 }
 
 /// What a request comes to from the rule of its frame's size on, in the state at this moment: it is
-/// refused for the first rule that holds, and else succeeds. A request of a type that no one may
-/// send is refused. The one error is want of memory.
+/// refused for the first rule that holds, and else succeeds. A request of a type that isn't a join
+/// server's is refused. The one error is want of memory.
 #[tactic(auto, using(crate::proofs::Lapsing::lapse_unread))]
 pub fn js_decide<'a, E: BlockFn, D: BlockFn>(
     alloc: Global,
@@ -326,5 +307,6 @@ pub fn js_decide<'a, E: BlockFn, D: BlockFn>(
         (lapse now.0 state.now.now) message.head message.request) }
 {
     let _ = now;
-    decide(alloc, tables, vault, state, message)
+    let Message { head, request } = message;
+    decide(alloc, tables, vault, state, head, &request)
 }

@@ -21,6 +21,8 @@ pub(crate) fn find<'a>(tables: &'a Tables, state: &'a State, dev: Eui) -> Option
     ensures device { option_map found_now result ≡ found_of tables.now state.now.now dev }
     ensures number { IfSome result (λ f. f.number < length tables.now.devices) }
     ensures row { IfSome result (λ f. slice_get tables.now.devices f.number ≡ Some f.row.now) }
+    ensures kept { IfSome result (λ f.
+        slice_get state.now.now.devices f.number ≡ Some f.kept.now) }
 {
     let Some((number, row)) = tables.device(dev) else {
         return None;

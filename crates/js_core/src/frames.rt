@@ -32,7 +32,7 @@ fn is_sized_as(kind: u8, frame: &[u8]) -> bool
 
 /// Whether the frame is empty or has a size that its message type can't have.
 #[tactic(auto, unfolding(crate::specs::Frames::wrong_size))]
-pub(crate) fn wrong_size(frame: &[u8]) -> bool
+pub fn wrong_size(frame: &[u8]) -> bool
     ensures { result ≡ wrong_size frame.now }
 {
     if frame.is_empty() {
@@ -43,10 +43,10 @@ pub(crate) fn wrong_size(frame: &[u8]) -> bool
 
 // ---- fields
 
-// The fields of a join- or rejoin-request, and None where the frame is none (LoRaWAN 1.1, 6.2.2
-// and 6.2.4).
+/// The fields of a join- or rejoin-request, and None where the frame is none (LoRaWAN 1.1, 6.2.2
+/// and 6.2.4).
 #[tactic(auto, using(crate::proofs::JoinFrames::form_size))]
-fn join_up(frame: &[u8]) -> Option<JoinUp>
+pub fn join_up(frame: &[u8]) -> Option<JoinUp>
     ensures fields { result ≡ join_up_of frame.now }
     ensures size { IfSome result (λ up. length frame.now ≡ frame_size up) }
 {
@@ -67,7 +67,8 @@ pub(crate) fn counter(up: &JoinUp) -> u16
     }
 }
 
-fn dev_eui(up: &JoinUp) -> Eui
+/// Its DevEUI.
+pub(crate) fn dev_eui(up: &JoinUp) -> Eui
     ensures { result ≡ dev_eui_of up.now }
 {
     match up {

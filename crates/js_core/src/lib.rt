@@ -5,6 +5,7 @@ mod activation;
 mod decide;
 mod found;
 mod frames;
+mod home;
 mod keys;
 pub mod laws;
 mod parties;
@@ -14,6 +15,8 @@ mod step;
 
 pub use activation::Activation;
 pub use decide::{JsDecision, js_decide, refused};
+pub use frames::{join_up, wrong_size};
+pub use home::{HomeStep, home_accept, home_step};
 pub use parties::{is_known, may_send, reaches};
 pub use question::NoQuestion;
-pub use step::JoinStep;
+pub use step::{JoinStep, change};

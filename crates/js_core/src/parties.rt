@@ -26,9 +26,16 @@ pub fn reaches(tables: &Tables, kind: ReceiverKind, receiver: PeerId) -> bool
     match receiver {
         PeerId::Network(net) => match kind {
             ReceiverKind::JoinServer => false,
-            ReceiverKind::Any => net.get() == tables.desk().net_id.get(),
+            ReceiverKind::NetworkServer | ReceiverKind::Any => {
+                net.get() == tables.desk().net_id.get()
+            }
         },
-        PeerId::JoinServer(join_eui) => tables.desk().join_euis.contains(join_eui),
+        PeerId::JoinServer(join_eui) => match kind {
+            ReceiverKind::NetworkServer => false,
+            ReceiverKind::JoinServer | ReceiverKind::Any => {
+                tables.desk().join_euis.contains(join_eui)
+            }
+        },
     }
 }
 
@@ -45,6 +52,10 @@ pub fn may_send(tables: &Tables, kind: SenderKind, sender: Sender) -> bool
         SenderKind::Application => match sender {
             Sender::Network(_) => false,
             Sender::Party(id) => tables.application(id).is_some(),
+        },
+        SenderKind::Gateway => match sender {
+            Sender::Network(_) => false,
+            Sender::Party(id) => tables.gateway(id),
         },
         SenderKind::Nobody => false,
     }

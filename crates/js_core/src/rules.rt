@@ -35,9 +35,9 @@ fn wrong_home(head: &Head, found: &FoundDevice<'_>) -> bool
     !is_net(found.row.home, head.sender)
 }
 
-// The join step of a device for this frame, or the first cause against it. The MIC is looked at
-// once under each kept seed at most.
-fn join_step<E: BlockFn, D: BlockFn>(
+/// The join step of a device for this frame, or the first cause against it. The MIC is looked at
+/// once under each kept seed at most.
+pub(crate) fn join_step<E: BlockFn, D: BlockFn>(
     vault: &Vault<E, D>,
     device: &FoundDevice<'_>,
     up: &JoinUp,

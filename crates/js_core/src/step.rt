@@ -13,7 +13,7 @@ ghost use Rattle.js_core.specs.Steps.{wrong_eui, wrong_mic};
 
 use crate::frames::counter;
 use agreements::DeviceRow;
-use entries::{Change, Joined, Rejoined, SeedPlace, UsedSeed};
+use entries::{Change, Joined, OwnContext, Rejoined, SeedPlace, UsedSeed};
 use entry_codec::{Device, KeptSeed};
 use join_frames::{JoinUp, join_mic_ok, rejoin_mic_ok};
 use key_vault::{BlockFn, Vault};
@@ -229,9 +229,10 @@ pub(crate) fn used_seed(place: &Option<SeedPlace>, up: &JoinUp) -> Option<UsedSe
     }
 }
 
-/// What the step changes of the device with this number, which gets no context of this desk.
-pub(crate) fn change(device: u32, step: &JoinStep) -> Change
-    ensures { result ≡ change_of device step.now }
+/// What the step changes of the device with this number, which gets this context of the desk, or
+/// none.
+pub fn change(device: u32, step: &JoinStep, own: Option<OwnContext>) -> Change
+    ensures { result ≡ change_of device step.now own }
 {
     let JoinStep { used, seed } = *step;
     match used {
@@ -239,14 +240,14 @@ pub(crate) fn change(device: u32, step: &JoinStep) -> Change
             device,
             counter: seed.counter,
             join_nonce: seed.nonce,
-            own: None,
+            own,
         }),
         Some(used) => Change::Rejoin(Rejoined {
             device,
             used,
             counter: seed.counter,
             join_nonce: seed.nonce,
-            own: None,
+            own,
         }),
     }
 }

@@ -10,7 +10,7 @@ use wire_ids::{Eui, NetId, PeerId, Sender, Text};
 fn is_send<T: Send>() {}
 
 // Bodies, and the first member of each that is missing or ill-formed.
-const LACKING: [(&[u8], &str); 8] = [
+const LACKING: [(&[u8], &str); 10] = [
     (b"{\"SenderID\":\"000014\"}", "ProtocolVersion"),
     (
         b"{\"ProtocolVersion\":\"1.1\",\"SenderID\":\"0014\"}",
@@ -48,6 +48,18 @@ const LACKING: [(&[u8], &str); 8] = [
         b"{\"ProtocolVersion\":\"1.1\",\"SenderID\":\"000014\",\"ReceiverID\":\"000013\",\
         \"TransactionID\":1,\"MessageType\":\"HomeNSReq\",\"DevEUI\":1}",
         "DevEUI",
+    ),
+    (
+        b"{\"ProtocolVersion\":\"1.1\",\"SenderID\":\"b000000000000001\",\
+        \"ReceiverID\":\"000013\",\"TransactionID\":1,\"MessageType\":\"UplinkReq\",\
+        \"PHYPayload\":\"\",\"DataRate\":8}",
+        "DataRate",
+    ),
+    (
+        b"{\"ProtocolVersion\":\"1.1\",\"SenderID\":\"b000000000000001\",\
+        \"ReceiverID\":\"000013\",\"TransactionID\":1,\"MessageType\":\"UplinkReq\",\
+        \"PHYPayload\":\"400\",\"DataRate\":5.0}",
+        "PHYPayload",
     ),
 ];
 

@@ -1,8 +1,7 @@
 -- Two desks whose tables differ in one AppKey give alike answers, kept ones too.
-use Rattle.std.proofs.Common.{◌≡◌, ℕ, zero, suc, ◌==◌, List, [], ◌∷◌, map, take, drop, Bool, true, false, cond, not, is_some, Option, Some, None, option_map, Result, Ok, Err, refl, sym, ap, ◌∙◌, subst}
+use Rattle.std.proofs.Common.{◌≡◌, ℕ, zero, suc, List, [], ◌∷◌, map, take, drop, Bool, true, false, cond, not, Option, Some, None, option_map, Result, Ok, Err, refl, sym, ap, ◌∙◌, subst}
 use Rattle.std.specs.List.{AllZip}
-use Rattle.std.specs.Prelude.{find, option_and_then, position, slice_get}
-use Rattle.wire_ids.specs.Decisions.{entry_of}
+use Rattle.std.specs.Prelude.{find, option_and_then, position}
 use Rattle.wire_ids.specs.Lists.{changed, changed_there}
 use Rattle.wire_ids.proofs.Lists.{changed-cons}
 use Rattle.wire_ids.specs.declared.decision.Decision.TheVariants as decision
@@ -14,7 +13,6 @@ use Rattle.wire_ids.specs.declared.party.Sender.TheVariants.{Network, Party}
 use Rattle.key_vault.specs.Table.{app_at, nwk_at}
 use Rattle.agreements.specs.LookUps.{keys_of}
 use Rattle.agreements.specs.Walk.{Config}
-use Rattle.agreements.specs.declared.rows.DeviceRow.{DeviceRow}
 use Rattle.backend_json.specs.Answers.{text_of}
 use Rattle.backend_json.specs.Messages.{message_of}
 use Rattle.backend_json.specs.Types.{receiver_of, sender_of}
@@ -26,12 +24,11 @@ use Rattle.backend_json.specs.declared.answer.Answer.{Answer}
 use Rattle.backend_json.specs.declared.head.Head.{Head}
 use Rattle.backend_json.specs.declared.message.Bad.{Bad}
 use Rattle.backend_json.specs.declared.message.Message.{Message}
-use Rattle.backend_json.specs.declared.refusal.Refusal.{Refusal}
-use Rattle.backend_json.specs.declared.refusal.Refusal.TheVariants.{Sender as NoSender, Receiver, «Type», Asked}
 use Rattle.backend_json.specs.declared.request.Request.{Request}
+use Rattle.backend_json.specs.declared.request.Request.TheVariants.{AppSKeyReq, HomeNSReq, JoinReq, RejoinReq, UplinkReq, Unknown}
 use Rattle.entries.specs.declared.change.Change.{Change}
 use Rattle.entries.specs.declared.entry.Entry.{Entry}
-use Rattle.entry_codec.specs.Empty.{empty, empty_kept, names_of, new_device, no_answers, senders_of}
+use Rattle.entry_codec.specs.Empty.{empty, empty_kept, new_device, no_answers, senders_of}
 use Rattle.entry_codec.specs.Kept.{answer_among, has_body, is_of, keep, kept_answer, with_pair}
 use Rattle.entry_codec.specs.LookUps.{is_asked, is_same_sender}
 use Rattle.entry_codec.specs.Machine.{Machine, after, lapse, on_event, ready, wakes}
@@ -42,16 +39,20 @@ use Rattle.entry_codec.proofs.Names.{position-map}
 use Rattle.js_core.specs.AppKey.{AnswersAlike, row_with_app_key, with_app_key}
 use Rattle.js_core.specs.AppKey as js
 use Rattle.js_core.specs.Parties.{is_known, may_send, reaches}
-use Rattle.js_core.specs.Replies.{JsDecision, js_decided, refuses, success_of}
+use Rattle.js_core.specs.Replies.{JsDecision, js_decided}
 use Rattle.js_core.proofs.AppKeys as of_request
 use Rattle.js_core.proofs.Changes.{map-changed}
+use Rattle.js_core.proofs.Unread.{same_bare}
+use Rattle.ns_core.specs.Replies.{ns_decided}
+use Rattle.ns_core.proofs.Cases as ns
+use Rattle.ns_core.proofs.Unread.{unread}
 use Rattle.roam_core.specs.AppKey.{AppKeyStays, DesksAlike, KeptAlike, PairsAlike, RunsAlike, TextsAlike}
-use Rattle.roam_core.specs.Decided.{decided, entry_in, judged_at, said, with_entry}
+use Rattle.roam_core.specs.Decided.{by_part, decided, entry_in, judged_at, said, success_of, with_entry}
 use Rattle.roam_core.specs.Desk.{Desk, desk_with, empty_desk}
-use Rattle.roam_core.specs.Lines.{Heard, Reaction, bad_answer, decided_of, line_decided, reaction, reaction_of, text_in}
+use Rattle.roam_core.specs.Lines.{Heard, Reaction, bad_answer, decided_of, line_decided, reaction, reaction_of}
 use Rattle.roam_core.specs.Order.{Line, by_order, order, wrong_receiver, wrong_sender, wrong_type}
 use Rattle.roam_core.proofs.Outcomes.{front, passed}
-use Rattle.roam_core.proofs.Parts.{join_servers_part}
+use Rattle.roam_core.proofs.Parts.{parts_decide}
 
 same_answer : (c : Config) (d : ℕ) (reply : Answer) → AnswersAlike c d reply reply
 same_answer c d reply = record { others = λ none. refl; rest = refl }
@@ -251,8 +252,10 @@ module _ (c : Config) (d : ℕ) (key : List ℕ) where
   reaches_same : (kind : ReceiverKind) (receiver : PeerId) → reaches (with_app_key d key c) kind receiver ≡ reaches c kind receiver
   unfolding with_app_key reaches
   reaches_same to.JoinServer (peer.Network net) = refl
+  reaches_same to.NetworkServer (peer.Network net) = refl
   reaches_same to.Any (peer.Network net) = refl
   reaches_same to.JoinServer (peer.JoinServer id) = refl
+  reaches_same to.NetworkServer (peer.JoinServer id) = refl
   reaches_same to.Any (peer.JoinServer id) = refl
 
   may_send_same : (kind : SenderKind) (sender : Sender) → may_send (with_app_key d key c) kind sender ≡ may_send c kind sender
@@ -261,6 +264,8 @@ module _ (c : Config) (d : ℕ) (key : List ℕ) where
   may_send_same from.Network (Party id) = refl
   may_send_same from.Application (Network net) = refl
   may_send_same from.Application (Party id) = refl
+  may_send_same from.Gateway (Network net) = refl
+  may_send_same from.Gateway (Party id) = refl
   may_send_same from.Nobody (Network net) = refl
   may_send_same from.Nobody (Party id) = refl
 
@@ -269,6 +274,31 @@ module _ (c : Config) (d : ℕ) (key : List ℕ) where
 
   abbrev keys' : List RootKeys
   keys' = map keys_of (with_app_key d key c).devices
+
+  -- a gateway's request comes to the same
+  heard_alike : (m : Machine) (head : Head) (request : Request) → JudgedAlike c d (ns_decided c (nwk_at keys) m head request) (ns_decided (with_app_key d key c) (nwk_at keys') m head request)
+  heard_alike m head request =
+      let same = unread c (with_app_key d key c) (same_bare d key c) (nwk_at keys) m head request ∙ ap (λ (nwk : ℕ → List ℕ). ns_decided (with_app_key d key c) nwk m head request) (of_request.keys_with d key c).nwk in
+      subst (λ (x : JsDecision). JudgedAlike c d (ns_decided c (nwk_at keys) m head request) x) same
+      (ns.by_cases c (nwk_at keys) m head (λ (x : JsDecision). JudgedAlike c d x x) (record {
+        refusal = λ why. same_answer c d _;
+        activation = λ asked up f own is. (same_answer c d _, refl);
+        duplicate = λ s. same_answer c d _;
+        uplink = λ asked s v is. (same_answer c d _, refl);
+      }) request)
+
+  asked_alike : (m : Machine) (head : Head) (request : Request)
+      → JudgedAlike c d (js_decided c (nwk_at keys) (app_at keys) m head request) (js_decided (with_app_key d key c) (nwk_at keys') (app_at keys') m head request)
+  asked_alike m head request = from_request c d _ _ (of_request.app_key_stays c d key m head request)
+
+  part_alike : (m : Machine) (head : Head) (request : Request)
+      → JudgedAlike c d (by_part c (nwk_at keys) (app_at keys) m head request) (by_part (with_app_key d key c) (nwk_at keys') (app_at keys') m head request)
+  part_alike m head (JoinReq request) = asked_alike m head (JoinReq request)
+  part_alike m head (RejoinReq request) = asked_alike m head (RejoinReq request)
+  part_alike m head (AppSKeyReq request) = asked_alike m head (AppSKeyReq request)
+  part_alike m head (HomeNSReq request) = asked_alike m head (HomeNSReq request)
+  part_alike m head (UplinkReq request) = heard_alike m head (UplinkReq request)
+  part_alike m head Unknown = asked_alike m head Unknown
 
   judged_alike : (m : Machine) (head : Head) (request : Request) (left right : Option (List ℕ)) (asked : Bool) → BothKept c d left right
       → JudgedAlike c d (judged_at c (nwk_at keys) (app_at keys) m head request left asked) (judged_at (with_app_key d key c) (nwk_at keys') (app_at keys') m head request right asked)
@@ -283,12 +313,11 @@ module _ (c : Config) (d : ℕ) (key : List ℕ) where
       front_both c d head (wrong_sender c head) (wrong_sender c' head) (wrong_receiver c head) (wrong_receiver c' head) (wrong_type c head) (wrong_type c' head) left right asked rest rest'
       (success_of c (nwk_at keys) (app_at keys) m head request) (success_of c' (nwk_at keys') (app_at keys') m head request) a b e both
       (λ known here may.
-      let one = sym (join_servers_part c (nwk_at keys) (app_at keys) m head request known here may) ∙ passed head (wrong_sender c head) (wrong_receiver c head) (wrong_type c head) rest (success_of c (nwk_at keys) (app_at keys) m head request) known here may in
-      let two = sym (join_servers_part c' (nwk_at keys') (app_at keys') m head request (a ∙ known) (b ∙ here) (e ∙ may)) ∙ passed head (wrong_sender c' head) (wrong_receiver c' head) (wrong_type c' head) rest' (success_of c' (nwk_at keys') (app_at keys') m head request) (a ∙ known) (b ∙ here) (e ∙ may) in
-      let left_js = js_decided c (nwk_at keys) (app_at keys) m head request in
-      let right_js = js_decided c' (nwk_at keys') (app_at keys') m head request in
+      let one = sym (parts_decide c (nwk_at keys) (app_at keys) m head request known here may) ∙ passed head (wrong_sender c head) (wrong_receiver c head) (wrong_type c head) rest (success_of c (nwk_at keys) (app_at keys) m head request) known here may in
+      let two = sym (parts_decide c' (nwk_at keys') (app_at keys') m head request (a ∙ known) (b ∙ here) (e ∙ may)) ∙ passed head (wrong_sender c' head) (wrong_receiver c' head) (wrong_type c' head) rest' (success_of c' (nwk_at keys') (app_at keys') m head request) (a ∙ known) (b ∙ here) (e ∙ may) in
+      let left_part = by_part c (nwk_at keys) (app_at keys) m head request in
       let right_rest = by_order (said head None) rest' (success_of c' (nwk_at keys') (app_at keys') m head request) in
-      subst (λ (x : JsDecision). JudgedAlike c d x right_rest) one (subst (λ (y : JsDecision). JudgedAlike c d left_js y) two (from_request c d left_js right_js (of_request.app_key_stays c d key m head request))))
+      subst (λ (x : JsDecision). JudgedAlike c d x right_rest) one (subst (λ (y : JsDecision). JudgedAlike c d left_part y) two (part_alike m head request)))
 
   bad_alike : (r : Bad) → ReactionsAlike c d (reaction_of (decision.Reply (bad_answer r))) (reaction_of (decision.Reply (bad_answer r)))
   bad_alike r = record { answer = texts_of c d _ _ (same_answer c d (bad_answer r)); entry = tt }

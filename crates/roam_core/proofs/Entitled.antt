@@ -1,5 +1,5 @@
 -- Each answer agrees with the entitlement table, and a kept one did when its entry was made.
-use Rattle.std.proofs.Common.{◌≡◌, ℕ, List, [], ◌∷◌, ◌++◌, take, Bool, true, false, cond, Option, Some, None, option_map, Result, Ok, Err, refl, sym, ap, ◌∙◌, subst, append_assoc, append-nil}
+use Rattle.std.proofs.Common.{◌≡◌, ℕ, List, [], ◌∷◌, ◌++◌, Bool, true, false, cond, Option, Some, None, option_map, Result, Ok, Err, refl, sym, ap, ◌∙◌, subst, append_assoc, append-nil}
 use Rattle.std.specs.List.{AllByRecursion}
 use Rattle.std.specs.Prelude.{find, map, option_and_then, position}
 use Rattle.wire_ids.specs.Lists.{changed_there}
@@ -9,19 +9,20 @@ use Rattle.wire_ids.specs.declared.keys.RootKeys.{RootKeys}
 use Rattle.wire_ids.specs.declared.party.Sender.{Sender}
 use Rattle.key_vault.specs.Table.{app_at, nwk_at}
 use Rattle.agreements.specs.Walk.{Config}
-use Rattle.backend_json.proofs.KeysWritten.{headless_written, none_written}
+use Rattle.backend_json.proofs.KeysWritten.{headless_written, none_written, uplink_written}
 use Rattle.backend_json.specs.Answers.{text_of}
 use Rattle.backend_json.specs.Messages.{message_of}
 use Rattle.backend_json.specs.declared.answer.Answer.{Answer}
 use Rattle.backend_json.specs.declared.answer.Answer.TheVariants.{Headed, Headless}
 use Rattle.backend_json.specs.declared.answer.Outcome.{Outcome}
-use Rattle.backend_json.specs.declared.answer.Outcome.TheVariants.{AppSKeyAns, HomeNSAns, JoinAns, Refused, RejoinAns}
+use Rattle.backend_json.specs.declared.answer.Outcome.TheVariants.{AppSKeyAns, HomeNSAns, JoinAns, Refused, RejoinAns, UplinkAns}
 use Rattle.backend_json.specs.declared.head.Head.{Head}
 use Rattle.backend_json.specs.declared.message.Bad.{Bad}
 use Rattle.backend_json.specs.declared.message.Bad.TheVariants as bad
 use Rattle.backend_json.specs.declared.message.Message.{Message}
 use Rattle.backend_json.specs.declared.refusal.Refusal.TheVariants as cause
 use Rattle.backend_json.specs.declared.request.Request.{Request}
+use Rattle.backend_json.specs.declared.request.Request.TheVariants.{AppSKeyReq, HomeNSReq, JoinReq, RejoinReq, UplinkReq, Unknown}
 use Rattle.backend_json.specs.declared.session.SessionKeyId.{SessionKeyId}
 use Rattle.entitlement.specs.declared.roles.AnswerKind.{AnswerKind}
 use Rattle.entries.specs.declared.change.Change.{Change}
@@ -30,7 +31,7 @@ use Rattle.entries.specs.declared.entry.Event.{Event}
 use Rattle.entries.specs.declared.entry.Event.TheVariants as event
 use Rattle.entries.specs.declared.entry.Request as kept_request
 use Rattle.entry_codec.specs.Empty.{empty_kept, no_answers, senders_of}
-use Rattle.entry_codec.specs.Kept.{answer_among, has_body, is_of, keep, kept_answer, kept_by, put_first, with_pair}
+use Rattle.entry_codec.specs.Kept.{answer_among, has_body, is_of, keep, kept_answer, kept_by, with_pair}
 use Rattle.entry_codec.specs.LookUps.{is_asked}
 use Rattle.entry_codec.specs.Machine.{Machine, after, entered, lapse, on_change, on_event, ready, wake, wakes}
 use Rattle.entry_codec.specs.declared.kept.KeptAnswers.{KeptAnswers}
@@ -40,11 +41,13 @@ use Rattle.js_core.specs.Agreement.{AnswerAgrees, KeysAgree}
 use Rattle.js_core.specs.Agreement as js
 use Rattle.js_core.specs.Found.{found_of}
 use Rattle.js_core.specs.Parties.{is_known}
-use Rattle.js_core.specs.Replies.{JsDecision, js_decided, refused}
+use Rattle.js_core.specs.Replies.{JsDecision, js_decided}
 use Rattle.js_core.proofs.Agreeing.{answers_agree}
 use Rattle.js_core.proofs.Cases.{by_cases}
 use Rattle.roam_core.specs.Agreement.{Agrees, AreValid, IsKept, KeptAgree, LinesAgree, WasEntitled}
-use Rattle.roam_core.specs.Decided.{decided, entry_in, judged_at, with_entry}
+use Rattle.ns_core.specs.Replies.{ns_decided}
+use Rattle.ns_core.proofs.Cases as ns
+use Rattle.roam_core.specs.Decided.{by_part, decided, entry_in, judged_at, with_entry}
 use Rattle.roam_core.specs.Desk.{Desk, desk_after, empty_desk}
 use Rattle.roam_core.specs.Legal.{IsFirst, IsLegal, IsStep, MayFollow, desk_at, desk_from}
 use Rattle.roam_core.specs.Lines.{bad_answer, decided_of, line_decided}
@@ -66,6 +69,7 @@ agrees_entered c keys m at now (Headed head (JoinAns members)) k = keys_entered 
 agrees_entered c keys m at now (Headed head (RejoinAns members)) k = keys_entered c keys m at now _ members.lifetime head (RejoinAns members) members.session_key_id k
 agrees_entered c keys m at now (Headed head (AppSKeyAns members)) k = (keys_entered c keys m at now _ 0 head (AppSKeyAns members) members.session_key_id k.0, k.1)
 agrees_entered c keys m at now (Headed head (HomeNSAns members)) k = k
+agrees_entered c keys m at now (Headed head (UplinkAns members)) k = k
 
 -- ---- what is decided anew
 
@@ -82,6 +86,31 @@ agrees_as c keys sender m now (decision.Reply reply) f = f None
 agrees_as c keys sender m now (decision.Accept reply change) f = f
 agrees_as c keys sender m now (decision.AskPeer peer question change) f = tt
 
+-- an answer to a gateway has no keys
+heard_agrees : (c : Config) (keys : List RootKeys) (m : Machine) (now : ℕ) (head : Head) (request : Request) → AgreesAs c keys head.sender m now (ns_decided c (nwk_at keys) m head request)
+heard_agrees c keys m now head request = ns.by_cases c (nwk_at keys) m head (AgreesAs c keys head.sender m now) (record {
+  refusal = λ why. none_written head why;
+  activation = λ request up f own is. λ who. uplink_written head _;
+  duplicate = λ s. uplink_written head _;
+  uplink = λ request s v is. λ who. uplink_written head _;
+}) request
+
+part_agrees : (c : Config) (keys : List RootKeys) (m : Machine) (now : ℕ) (head : Head) (request : Request) → AreValid c → is_known c head.sender ≡ true → AgreesAs c keys head.sender m now (by_part c (nwk_at keys) (app_at keys) m head request)
+part_agrees c keys m now head request valid known = by request
+  where
+    decided_agrees : (request : Request) → AgreesAs c keys head.sender m now (js_decided c (nwk_at keys) (app_at keys) m head request)
+    decided_agrees request =
+        agrees_as c keys head.sender m now (js_decided c (nwk_at keys) (app_at keys) m head request)
+        (λ who. subst (λ (d : JsDecision). js.Agrees c keys (wake who m) now head.sender d) (wake_unread c (nwk_at keys) (app_at keys) who m head request) (answers_agree c keys (wake who m) now head request valid known))
+
+    by : (request : Request) → AgreesAs c keys head.sender m now (by_part c (nwk_at keys) (app_at keys) m head request)
+    by (JoinReq request) = decided_agrees (JoinReq request)
+    by (RejoinReq request) = decided_agrees (RejoinReq request)
+    by (AppSKeyReq request) = decided_agrees (AppSKeyReq request)
+    by (HomeNSReq request) = decided_agrees (HomeNSReq request)
+    by (UplinkReq request) = heard_agrees c keys m now head (UplinkReq request)
+    by Unknown = decided_agrees Unknown
+
 judged_agrees : (c : Config) (keys : List RootKeys) (m : Machine) (now : ℕ) (head : Head) (request : Request) (kept : Option (List ℕ)) (asked : Bool) → AreValid c → AgreesAs c keys head.sender m now (judged_at c (nwk_at keys) (app_at keys) m head request kept asked)
 judged_agrees c keys m now head request kept asked valid =
     let nwk = nwk_at keys in
@@ -89,8 +118,7 @@ judged_agrees c keys m now head request kept asked valid =
     judged_is c nwk app m head request (AgreesAs c keys head.sender m now) kept asked (record {
       refusal = λ why. none_written head why;
       repeat = λ text is. tt;
-      decides = λ known. agrees_as c keys head.sender m now (js_decided c nwk app m head request)
-          (λ who. subst (λ (d : JsDecision). js.Agrees c keys (wake who m) now head.sender d) (wake_unread c nwk app who m head request) (answers_agree c keys (wake who m) now head request valid known));
+      decides = λ known. part_agrees c keys m now head request valid known;
     })
 
 entry_agrees : (c : Config) (keys : List RootKeys) (s : Desk) (head : Head) (body : List ℕ) (now : ℕ) (d : JsDecision) → AgreesAs c keys head.sender (lapse now s.now) now d → Agrees c keys s now (with_entry head body now d)
@@ -249,6 +277,34 @@ module _ (c : Config) (keys : List RootKeys) (valid : AreValid c) where
   kept_by_entry history head body now (decision.Accept reply change) k = tt
   kept_by_entry history head body now (decision.AskPeer peer question change) k = elim question [ ]
 
+  -- no part gives a kept answer
+  part_kept : (history : List Entry) (m : Machine) (head : Head) (request : Request) → IsKeptAs history (by_part c (nwk_at keys) (app_at keys) m head request)
+  part_kept history m head request = by request
+    where
+      decided_kept : (request : Request) → IsKeptAs history (js_decided c (nwk_at keys) (app_at keys) m head request)
+      decided_kept request = by_cases c (nwk_at keys) (app_at keys) (app_at keys) m head (λ left right. IsKeptAs history left) (record {
+        refusal = λ why. tt;
+        join = λ activation join up f is. tt;
+        app_s_key = λ request f seed is. tt;
+        home_ns = λ f. tt;
+      }) request
+
+      heard_kept : (request : Request) → IsKeptAs history (ns_decided c (nwk_at keys) m head request)
+      heard_kept request = ns.by_cases c (nwk_at keys) m head (IsKeptAs history) (record {
+        refusal = λ why. tt;
+        activation = λ request up f own is. tt;
+        duplicate = λ s. tt;
+        uplink = λ request s v is. tt;
+      }) request
+
+      by : (request : Request) → IsKeptAs history (by_part c (nwk_at keys) (app_at keys) m head request)
+      by (JoinReq request) = decided_kept (JoinReq request)
+      by (RejoinReq request) = decided_kept (RejoinReq request)
+      by (AppSKeyReq request) = decided_kept (AppSKeyReq request)
+      by (HomeNSReq request) = decided_kept (HomeNSReq request)
+      by (UplinkReq request) = heard_kept (UplinkReq request)
+      by Unknown = decided_kept Unknown
+
   judged_kept : (history : List Entry) (m : Machine) (head : Head) (request : Request) (body : List ℕ) (kept : List KeptAnswers) (asked : Bool) → AllKept (WasEntitled c keys history) kept
       → IsKeptAs history (judged_at c (nwk_at keys) (app_at keys) m head request (kept_answer head.sender body kept) asked)
   judged_kept history m head request body kept asked all =
@@ -257,12 +313,7 @@ module _ (c : Config) (keys : List RootKeys) (valid : AreValid c) where
       judged_is c nwk app m head request (IsKeptAs history) (kept_answer head.sender body kept) asked (record {
         refusal = λ why. tt;
         repeat = λ text is. kept_gives (WasEntitled c keys history) head.sender body text kept all is;
-        decides = λ known. by_cases c nwk app app m head (λ left right. IsKeptAs history left) (record {
-          refusal = λ why. tt;
-          join = λ activation join up f is. tt;
-          app_s_key = λ request f seed is. tt;
-          home_ns = λ f. tt;
-        }) request;
+        decides = λ known. part_kept history m head request;
       })
 
   kept_of : (history : List Entry) (s : Desk) (body : List ℕ) (now : ℕ) (r : Result Message Bad) → AllKept (WasEntitled c keys history) s.kept → IsKept c keys history (decided_of c (nwk_at keys) (app_at keys) s body now r)

@@ -1,27 +1,24 @@
 -- The entry that a line makes fits.
-use Rattle.std.proofs.Common.{◌≡◌, ◌<◌, ℕ, ◌+◌, ◌==◌, List, length, Bool, true, false, cond, Option, Some, None, get_or, refl, sym, ap, ◌∙◌, subst, arith}
-use Rattle.std.proofs.lemmas.List.Quantifiers.{position-Some}
-use Rattle.std.proofs.lemmas.Option.{slice_get-get_or}
+use Rattle.std.proofs.Common.{◌≡◌, ℕ, List, Bool, true, false, Option, Some, None, refl, sym, ap, ◌∙◌, subst}
 use Rattle.std.specs.List.{list_any}
-use Rattle.std.specs.Prelude.{IsTrue, ◌&&◌, is_none, nat_le, nat_lt, position, slice_get}
+use Rattle.std.specs.Prelude.{IsTrue, nat_lt, slice_get}
 use Rattle.wire_ids.specs.Lists.{at_place, holds_of}
 use Rattle.wire_ids.specs.declared.decision.Decision.TheVariants as decision
-use Rattle.wire_ids.specs.declared.keys.RootKeys.{RootKeys}
 use Rattle.wire_ids.specs.declared.party.Sender.{Sender}
 use Rattle.key_vault.specs.Table.{app_at, nwk_at}
 use Rattle.agreements.specs.Walk.{Config}
 use Rattle.backend_json.specs.declared.head.Head.{Head}
 use Rattle.backend_json.specs.declared.request.JoinRequest.{JoinRequest}
+use Rattle.backend_json.specs.declared.request.Request.{Request}
+use Rattle.backend_json.specs.declared.request.Request.TheVariants.{AppSKeyReq, HomeNSReq, JoinReq, RejoinReq, UplinkReq, Unknown}
 use Rattle.entries.specs.declared.change.Change.{Change}
 use Rattle.entries.specs.declared.entry.Entry.{Entry}
-use Rattle.entries.specs.declared.entry.Event.TheVariants as event
-use Rattle.entries.specs.declared.used_seed.UsedSeed.{UsedSeed}
-use Rattle.entries.specs.declared.used_seed.UsedSeed.TheVariants.{Rejoin0, Rejoin2}
-use Rattle.entry_codec.specs.Fits.{fits, fits_change, fits_event, fits_used, is_above, is_above_count, is_time, names_there}
+use Rattle.entry_codec.specs.Fits.{fits, fits_change, fits_event, names_there}
 use Rattle.entry_codec.specs.Kept.{kept_answer}
 use Rattle.entry_codec.specs.LookUps.{is_asked, is_same_sender, is_sender}
-use Rattle.entry_codec.specs.Machine.{Machine, lapse, ready, wake, wakes}
-use Rattle.entry_codec.specs.declared.device.Device.{Device}
+use Rattle.entry_codec.specs.Machine.{Machine, change_wakes, lapse, ready, wake, wakes}
+use Rattle.entry_codec.specs.Sound.{IsSound}
+use Rattle.entry_codec.proofs.Sound.{sound_lapsed}
 use Rattle.entry_codec.specs.declared.device.KeptSeed.{KeptSeed}
 use Rattle.entry_codec.specs.declared.parties.Holder.{Holder}
 use Rattle.entry_codec.proofs.Ready.{senders_then}
@@ -31,39 +28,19 @@ use Rattle.join_frames.specs.declared.join_up.JoinUp.TheVariants.{Join, Rejoin02
 use Rattle.js_core.specs.Found.{Found}
 use Rattle.js_core.specs.Parties.{is_known}
 use Rattle.js_core.specs.Replies.{JsDecision, accepted, js_decided}
-use Rattle.js_core.specs.Steps.{is_not_above, is_valid_under, low_counter_at, next_seed, rejoin_seed, seed_place}
+use Rattle.js_core.specs.Steps.{is_not_above, next_seed, seed_place}
 use Rattle.js_core.specs.declared.activation.Activation.{Activation}
 use Rattle.js_core.proofs.Cases.{IsJoin, by_cases, stands_at}
-use Rattle.roam_core.specs.Decided.{entry_in, judged_at}
+use Rattle.ns_core.specs.Replies.{ns_decided}
+use Rattle.ns_core.proofs.Cases as ns
+use Rattle.roam_core.specs.Decided.{by_part, entry_in, judged_at}
 use Rattle.roam_core.specs.Desk.{Desk}
 use Rattle.roam_core.specs.Entering.{CanEnter, EntriesFit}
-use Rattle.roam_core.specs.Lines.{line_decided, reaction}
+use Rattle.roam_core.specs.Lines.{reaction}
+use Rattle.roam_core.proofs.Hearing.{AreNamed, activation_fits, named_lapsed, names_of_state, uplink_fits}
 use Rattle.roam_core.proofs.Outcomes as outcome
+use Rattle.roam_core.proofs.Stepping.{above, next_above, none_valid, used_fits}
 use Rattle.roam_core.proofs.Waking.{wake_unread}
-
-above : (n : ℕ) (o : Option ℕ) → is_not_above n o ≡ false → is_above n o ≡ true
-above n None h = refl
-above n (Some last) h = grind arith
-
-next_above : (n : ℕ) → nat_lt n (n + 1) ≡ true
-next_above n = grind arith
-
-seed_above : (n : ℕ) (o : Option KeptSeed) (seed : KeptSeed) → o ≡ Some seed → holds_of (λ (s : KeptSeed). is_not_above n s.rj_count0) o ≡ false → holds_of (is_above_count n) o ≡ true
-seed_above n None seed e h = absurd cc
-seed_above n (Some s) seed e h = above n s.rj_count0 h
-
--- the used seed is there, and the counter is above its last one
-used_fits : (nwk frame : List ℕ) (kind count place : ℕ) (kept : Device) (seed : KeptSeed) → seed_place nwk frame kept ≡ Some place
-    → holds_of (λ (s : KeptSeed). is_not_above count s.rj_count0) (slice_get kept.seeds.items place) ≡ false → fits_used (rejoin_seed kind place) count kept ≡ true
-unfolding seed_place
-used_fits nwk frame kind count place kept seed there low =
-    let within = (position-Some (is_valid_under nwk frame) kept.seeds.items place seed there).0 in
-    let fit = seed_above count (slice_get kept.seeds.items place) (get_or kept.seeds.items place seed) (slice_get-get_or kept.seeds.items place seed within) low in
-    elim (kind == 0) as (λ b. fits_used (cond b (Rejoin0 place) (Rejoin2 place)) count kept ≡ true) [ true ↦ fit | false ↦ fit ]
-
-none_valid : (o : Option ℕ) → o ≡ None → is_none o ≡ false → ⊥
-none_valid None e h = cc
-none_valid (Some place) e h = cc
 
 -- the change of a request that is accepted fits
 abbrev Fits : Sender → Machine → JsDecision → Type 0
@@ -100,10 +77,10 @@ module _ (c : Config) (nwk app : ℕ → List ℕ) (m : Machine) (head : Head) w
     home_ns = λ f. tt;
   }) request
 
--- the sender of a request that is accepted has a row, and what it changes fits whatever contexts are active
+-- the sender of a request that is accepted has a row, and what it changes fits once the context that it names is active
 record Enters (c : Config) (sender : Sender) (m : Machine) (change : Change) : Type 0 where
   pub known : is_known c sender ≡ true
-  pub fits : (who : Option Holder) → IsTrue (fits_change sender change (wake who m))
+  pub fits : IsTrue (fits_change sender change (wake (change_wakes change m) m))
 
 abbrev Entering : Config → Sender → Machine → JsDecision → Type 0
 Entering c sender m (decision.Repeat text) = Unit {0}
@@ -114,7 +91,7 @@ Entering c sender m (decision.AskPeer peer question change) = Unit {0}
 entering_of : (c : Config) (sender : Sender) (m : Machine) (d : JsDecision) → is_known c sender ≡ true → ((who : Option Holder) → Fits sender (wake who m) d) → Entering c sender m d
 entering_of c sender m (decision.Repeat text) known fit = tt
 entering_of c sender m (decision.Reply answer) known fit = tt
-entering_of c sender m (decision.Accept answer change) known fit = record { known = known; fits = fit }
+entering_of c sender m (decision.Accept answer change) known fit = record { known = known; fits = fit (change_wakes change m) }
 entering_of c sender m (decision.AskPeer peer question change) known fit = tt
 
 decided_enters : (c : Config) (nwk app : ℕ → List ℕ) (m : Machine) (head : Head) (request : _) → is_known c head.sender ≡ true → Entering c head.sender m (js_decided c nwk app m head request)
@@ -122,28 +99,45 @@ decided_enters c nwk app m head request known =
     entering_of c head.sender m (js_decided c nwk app m head request) known
     (λ who. subst (λ (d : JsDecision). Fits head.sender (wake who m) d) (wake_unread c nwk app who m head request) (decided_fits c nwk app (wake who m) head request))
 
-judged_enters : (c : Config) (nwk app : ℕ → List ℕ) (m : Machine) (head : Head) (request : _) (kept : Option (List ℕ)) (asked : Bool) → Entering c head.sender m (judged_at c nwk app m head request kept asked)
-judged_enters c nwk app m head request kept asked = outcome.judged_is c nwk app m head request (Entering c head.sender m) kept asked (record {
+heard_enters : (c : Config) (nwk : ℕ → List ℕ) (m : Machine) (head : Head) (request : Request) → AreNamed c m → IsSound m → is_known c head.sender ≡ true → Entering c head.sender m (ns_decided c nwk m head request)
+heard_enters c nwk m head request names sound known = ns.by_cases c nwk m head (Entering c head.sender m) (record {
+  refusal = λ why. tt;
+  activation = λ asked up f own is. record { known = known; fits = activation_fits c nwk m head.sender asked up f own is };
+  duplicate = λ s. tt;
+  uplink = λ asked s v is. record { known = known; fits = uplink_fits c nwk m head.sender asked s v names sound is };
+}) request
+
+part_enters : (c : Config) (nwk app : ℕ → List ℕ) (m : Machine) (head : Head) (request : Request) → AreNamed c m → IsSound m → is_known c head.sender ≡ true → Entering c head.sender m (by_part c nwk app m head request)
+part_enters c nwk app m head (JoinReq request) names sound known = decided_enters c nwk app m head (JoinReq request) known
+part_enters c nwk app m head (RejoinReq request) names sound known = decided_enters c nwk app m head (RejoinReq request) known
+part_enters c nwk app m head (AppSKeyReq request) names sound known = decided_enters c nwk app m head (AppSKeyReq request) known
+part_enters c nwk app m head (HomeNSReq request) names sound known = decided_enters c nwk app m head (HomeNSReq request) known
+part_enters c nwk app m head (UplinkReq request) names sound known = heard_enters c nwk m head (UplinkReq request) names sound known
+part_enters c nwk app m head Unknown names sound known = decided_enters c nwk app m head Unknown known
+
+judged_enters : (c : Config) (nwk app : ℕ → List ℕ) (m : Machine) (head : Head) (request : Request) (kept : Option (List ℕ)) (asked : Bool) → AreNamed c m → IsSound m → Entering c head.sender m (judged_at c nwk app m head request kept asked)
+judged_enters c nwk app m head request kept asked names sound = outcome.judged_is c nwk app m head request (Entering c head.sender m) kept asked (record {
   refusal = λ why. tt;
   repeat = λ text is. tt;
-  decides = decided_enters c nwk app m head request;
+  decides = part_enters c nwk app m head request names sound;
 })
 
 -- ---- the entry
 
 entry_fits : (c : Config) (s : Desk) (now : ℕ) (head : Head) (body : List ℕ) (answer : _) (change : Change) → CanEnter c s.now now → Enters c head.sender (lapse now s.now) change → IsTrue (fits s.now (entry_in head body now answer change))
-unfolding fits fits_event names_there ready
+unfolding fits fits_event names_there ready wakes
 entry_fits c s now head body answer change can is =
     let e = entry_in head body now answer change in
     let who = wakes e.event (lapse now s.now) in
     let sender : is_sender head.sender (wake who (lapse now s.now)) ≡ true = ap (λ (ss : List Sender). list_any (is_same_sender head.sender) ss) (senders_then who now s.now) ∙ can.senders head.sender is.known in
     let begun : nat_lt 0 (wake who (lapse now s.now)).entries ≡ true = ap (λ (n : ℕ). nat_lt 0 n) (stays-ready s.now e).entries ∙ can.begun in
-    rw (can.time, begun, sender, is.fits who) refl
+    rw (can.time, begun, sender, is.fits) refl
 
 pub entries_fit : EntriesFit
 unfolding reaction
-entries_fit c keys s body now e can is_made =
+entries_fit c keys s body now e places sound can is_made =
     let a = outcome.accepted c keys s body now e is_made in
     let m = lapse now s.now in
-    let enters : Enters c a.head.sender m a.change = subst (Entering c a.head.sender m) a.accepts (judged_enters c (nwk_at keys) (app_at keys) m a.head a.request (kept_answer a.head.sender body s.kept) (is_asked body m)) in
+    let names = named_lapsed now c s.now (names_of_state c s.now places can.state) in
+    let enters : Enters c a.head.sender m a.change = subst (Entering c a.head.sender m) a.accepts (judged_enters c (nwk_at keys) (app_at keys) m a.head a.request (kept_answer a.head.sender body s.kept) (is_asked body m) names (sound_lapsed now s.now sound)) in
     subst (λ (x : Entry). IsTrue (fits s.now x)) (sym a.is_entry) (entry_fits c s now a.head body a.answer a.change can enters)

@@ -14,7 +14,7 @@ all_fit : (c : Config) (keys : List RootKeys) (s : Desk) (es : List Entry) → M
 all_fit c keys s [] may = tt
 all_fit c keys s (e ∷ es) may = (may.0, all_fit c keys (desk_after s e) es may.2)
 
-legal_fits : (c : Config) (keys : List RootKeys) (history : List Entry) → IsLegal c keys history → AllFit (empty c) history
+pub legal_fits : (c : Config) (keys : List RootKeys) (history : List Entry) → IsLegal c keys history → AllFit (empty c) history
 legal_fits c keys [] legal = tt
 legal_fits c keys (e ∷ es) legal = (legal.0, all_fit c keys (desk_after (empty_desk c) e) es legal.2)
 

@@ -1,5 +1,5 @@
 -- What makes no entry changes nothing.
-use Rattle.std.proofs.Common.{◌≡◌, ℕ, List, Bool, true, false, Option, Some, None, Result, Ok, Err, refl}
+use Rattle.std.proofs.Common.{◌≡◌, ℕ, List, true, false, Result, Ok, Err, refl}
 use Rattle.wire_ids.specs.Decisions.{entry_of}
 use Rattle.wire_ids.specs.declared.decision.Decision.TheVariants as decision
 use Rattle.wire_ids.specs.declared.keys.RootKeys.{RootKeys}
@@ -11,22 +11,25 @@ use Rattle.backend_json.specs.declared.message.Bad.{Bad}
 use Rattle.backend_json.specs.declared.message.Message.{Message}
 use Rattle.backend_json.specs.declared.request.JoinRequest.{JoinRequest}
 use Rattle.backend_json.specs.declared.request.Request.{Request}
+use Rattle.backend_json.specs.declared.request.Request.TheVariants.{AppSKeyReq, HomeNSReq, JoinReq, RejoinReq, UplinkReq, Unknown}
 use Rattle.entry_codec.specs.Kept.{kept_answer}
 use Rattle.entry_codec.specs.LookUps.{is_asked}
 use Rattle.entry_codec.specs.Machine.{Machine, lapse}
 use Rattle.join_frames.specs.declared.join_up.JoinUp.{JoinUp}
 use Rattle.js_core.specs.Found.{Found}
 use Rattle.js_core.specs.Replies.{JsDecision, accepted, js_decided}
+use Rattle.ns_core.specs.Replies.{ns_decided}
+use Rattle.ns_core.proofs.Cases as ns
 use Rattle.js_core.specs.declared.activation.Activation.{Activation}
 use Rattle.js_core.specs.declared.activation.Activation.TheVariants as by
 use Rattle.js_core.proofs.Cases.{by_cases}
-use Rattle.roam_core.specs.Decided.{decided, judged_at, with_entry}
+use Rattle.roam_core.specs.Decided.{by_part, decided, judged_at, with_entry}
 use Rattle.roam_core.specs.Desk.{Desk, desk_with}
 use Rattle.roam_core.specs.Entering.{RepliesKeep, enters, gives_session}
 use Rattle.roam_core.specs.Lines.{decided_of, line_decided, reaction}
 use Rattle.roam_core.proofs.Outcomes.{judged_is}
 
--- an answer that comes with a change gives a session
+-- an answer that comes with a change gives a session, or counts an uplink
 abbrev GivesSession : JsDecision → Type 0
 GivesSession (decision.Repeat text) = Unit {0}
 GivesSession (decision.Reply answer) = Unit {0}
@@ -44,6 +47,22 @@ gives-decided c nwk app m head request = by_cases c nwk app app m head (λ left 
   app_s_key = λ asked f seed is. tt;
   home_ns = λ f. tt;
 }) request
+
+gives-heard : (c : Config) (nwk : ℕ → List ℕ) (m : Machine) (head : Head) (request : Request) → GivesSession (ns_decided c nwk m head request)
+gives-heard c nwk m head request = ns.by_cases c nwk m head GivesSession (record {
+  refusal = λ why. tt;
+  activation = λ request up f own is. refl;
+  duplicate = λ s. tt;
+  uplink = λ request s v is. refl;
+}) request
+
+gives-part : (c : Config) (nwk app : ℕ → List ℕ) (m : Machine) (head : Head) (request : Request) → GivesSession (by_part c nwk app m head request)
+gives-part c nwk app m head (JoinReq request) = gives-decided c nwk app m head (JoinReq request)
+gives-part c nwk app m head (RejoinReq request) = gives-decided c nwk app m head (RejoinReq request)
+gives-part c nwk app m head (AppSKeyReq request) = gives-decided c nwk app m head (AppSKeyReq request)
+gives-part c nwk app m head (HomeNSReq request) = gives-decided c nwk app m head (HomeNSReq request)
+gives-part c nwk app m head (UplinkReq request) = gives-heard c nwk m head (UplinkReq request)
+gives-part c nwk app m head Unknown = gives-decided c nwk app m head Unknown
 
 kept_by_entry : (head : Head) (body : List ℕ) (now : ℕ) (s : Desk) (d : JsDecision) → GivesSession d → enters (with_entry head body now d) ≡ false → desk_with s (entry_of (with_entry head body now d)) ≡ s
 kept_by_entry head body now s (decision.Repeat text) g e = refl
@@ -65,7 +84,7 @@ keeps c keys s body now (Ok message) e =
     (judged_is c nwk app m head message.request GivesSession kept asked (record {
       refusal = λ why. tt;
       repeat = λ text is. tt;
-      decides = λ known. gives-decided c nwk app m head message.request;
+      decides = λ known. gives-part c nwk app m head message.request;
     }))
     e
 

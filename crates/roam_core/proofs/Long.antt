@@ -1,5 +1,5 @@
 -- A line above the limit is answered as its first bytes are.
-use Rattle.std.proofs.Common.{◌≡◌, ℕ, ◌<◌, List, length, take, Err, ◌∙◌, sym, arith, lt-ltb, refl}
+use Rattle.std.proofs.Common.{◌≡◌, ℕ, ◌<◌, List, length, take, Err, arith, lt-ltb, refl}
 use Rattle.std.proofs.lemmas.List.{length-take}
 use Rattle.backend_json.specs.Messages.{message_of}
 use Rattle.backend_json.specs.declared.message.Bad.TheVariants as bad

@@ -1,6 +1,6 @@
--- What a line comes to: a refusal, a kept answer, or what the join server makes of it.
+-- What a line comes to: a refusal, a kept answer, or what its part makes of it.
 use Rattle.std.specs.Prelude.{IfSome}
-use Rattle.std.proofs.Common.{◌≡◌, ℕ, List, [], ◌∷◌, Bool, true, false, not, is_some, Option, Some, None, Result, Ok, Err, refl, sym, ap, ◌∙◌, subst, drop}
+use Rattle.std.proofs.Common.{◌≡◌, ℕ, List, ◌∷◌, Bool, true, false, not, is_some, Option, Some, None, Result, Ok, Err, refl, sym, ap, ◌∙◌, subst, drop}
 use Rattle.wire_ids.specs.Decisions.{entry_of}
 use Rattle.wire_ids.specs.declared.decision.Decision.TheVariants as decision
 use Rattle.wire_ids.specs.declared.keys.RootKeys.{RootKeys}
@@ -20,23 +20,23 @@ use Rattle.entry_codec.specs.Kept.{kept_answer}
 use Rattle.entry_codec.specs.LookUps.{is_asked}
 use Rattle.entry_codec.specs.Machine.{Machine, lapse}
 use Rattle.js_core.specs.Parties.{is_known}
-use Rattle.js_core.specs.Replies.{JsDecision, js_decided, refuses, success_of}
-use Rattle.roam_core.specs.Decided.{RoamDecision, decided, entry_in, judged_at, said, with_entry}
+use Rattle.js_core.specs.Replies.{JsDecision, refuses}
+use Rattle.roam_core.specs.Decided.{RoamDecision, by_part, decided, entry_in, judged_at, said, success_of, with_entry}
 use Rattle.roam_core.specs.Desk.{Desk}
 use Rattle.roam_core.specs.Lines.{decided_of, line_decided, reaction}
 use Rattle.roam_core.specs.Order.{Kept, Line, by_order, order, wrong_receiver, wrong_sender, wrong_type}
 use Rattle.roam_core.specs.Order.{refuses as refuses_by}
-use Rattle.roam_core.proofs.Parts.{join_servers_part}
+use Rattle.roam_core.proofs.Parts.{parts_decide}
 
 not_not : (b : Bool) → not b ≡ false → b ≡ true
 not_not true h = refl
 not_not false h = absurd cc
 
--- what holds of a refusal, of the kept answer, and of what the join server makes of a known sender's request
+-- what holds of a refusal, of the kept answer, and of what its part makes of a known sender's request
 pub record HoldsOfAll (c : Config) (nwk app : ℕ → List ℕ) (m : Machine) (head : Head) (request : Request) (kept : Option (List ℕ)) (P : JsDecision → Type 0) : Type 0 where
   pub refusal : (why : Refusal) → P (refuses head why)
   pub repeat : (text : List ℕ) → kept ≡ Some text → P (decision.Repeat text)
-  pub decides : is_known c head.sender ≡ true → P (js_decided c nwk app m head request)
+  pub decides : is_known c head.sender ≡ true → P (by_part c nwk app m head request)
 
 -- the lines before the frame's size
 abbrev pub front : Bool → Bool → Bool → Option (List ℕ) → Bool → List Line → List Line
@@ -67,15 +67,15 @@ judged_is c nwk app m head request P kept asked holds =
     let success = success_of c nwk app m head request in
     front_is head P (wrong_sender c head) (wrong_receiver c head) (wrong_type c head) kept asked rest success holds.refusal holds.repeat
     (λ known here may.
-    let same = sym (join_servers_part c nwk app m head request known here may) ∙ passed head (wrong_sender c head) (wrong_receiver c head) (wrong_type c head) rest success known here may in
+    let same = sym (parts_decide c nwk app m head request known here may) ∙ passed head (wrong_sender c head) (wrong_receiver c head) (wrong_type c head) rest success known here may in
     subst P same (holds.decides (not_not (is_known c head.sender) known)))
 
--- where nothing stands before the frame's size, what the join server makes of it
-pub judged_js : (c : Config) (nwk app : ℕ → List ℕ) (m : Machine) (head : Head) (request : Request) (kept : Option (List ℕ)) (asked : Bool) → wrong_sender c head ≡ false → wrong_receiver c head ≡ false → wrong_type c head ≡ false
-    → kept ≡ None → asked ≡ false → judged_at c nwk app m head request kept asked ≡ js_decided c nwk app m head request
-judged_js c nwk app m head request None false known here may none free = join_servers_part c nwk app m head request known here may
-judged_js c nwk app m head request None true known here may none free = absurd cc
-judged_js c nwk app m head request (Some text) asked known here may none free = absurd cc
+-- where nothing stands before the frame's size, what its part makes of it
+pub judged_part : (c : Config) (nwk app : ℕ → List ℕ) (m : Machine) (head : Head) (request : Request) (kept : Option (List ℕ)) (asked : Bool) → wrong_sender c head ≡ false → wrong_receiver c head ≡ false → wrong_type c head ≡ false
+    → kept ≡ None → asked ≡ false → judged_at c nwk app m head request kept asked ≡ by_part c nwk app m head request
+judged_part c nwk app m head request None false known here may none free = parts_decide c nwk app m head request known here may
+judged_part c nwk app m head request None true known here may none free = absurd cc
+judged_part c nwk app m head request (Some text) asked known here may none free = absurd cc
 
 -- ---- what makes an entry
 

@@ -1,24 +1,22 @@
 -- Each sender that has a row is one of the state's.
-use Rattle.std.proofs.Common.{◌≡◌, ◌<◌, ℕ, zero, suc, ◌+◌, ◌^◌, ◌==◌, ◌||◌, List, [], ◌∷◌, ◌++◌, map, Bool, true, false, cond, Option, Some, None, eqb, refl, sym, ap, ◌∙◌, subst, arith}
+use Rattle.std.proofs.Common.{◌≡◌, ◌<◌, ℕ, zero, suc, ◌^◌, ◌==◌, ◌||◌, List, [], ◌∷◌, ◌++◌, map, Bool, true, false, cond, Some, refl, sym, ◌∙◌, subst, arith}
 use Rattle.std.proofs.lemmas.Bool.{eqb-true, eq-eqb}
 use Rattle.std.proofs.lemmas.List.Folds.{list_any-append}
 use Rattle.std.specs.List.{AllByRecursion, list_any}
-use Rattle.std.specs.Prelude.{IsTrue, find, is_some, nat_lt, slice_get}
+use Rattle.std.specs.Prelude.{is_some, nat_lt, slice_get}
 use Rattle.wire_ids.specs.declared.eui.Eui.{Eui}
 use Rattle.wire_ids.specs.declared.party.Sender.{Sender}
 use Rattle.wire_ids.specs.declared.party.Sender.TheVariants.{Network, Party}
-use Rattle.agreements.specs.LookUps.{application_row, network_row}
 use Rattle.agreements.specs.Rows.{has_gateway}
 use Rattle.agreements.specs.Walk.{Config}
 use Rattle.agreements.specs.declared.rows.ApplicationRow.{ApplicationRow}
 use Rattle.agreements.specs.declared.rows.GatewayRow.{GatewayRow}
 use Rattle.agreements.specs.declared.rows.NetworkRow.{NetworkRow}
 use Rattle.agreements.proofs.Belonging.{is_some-find}
-use Rattle.agreements.proofs.Distinct.{list_any-map}
-use Rattle.entry_codec.specs.Empty.{application_sender, empty, gateway_sender, in_order, names_of, network_sender, put_sender, put_senders, sender_number, senders_of}
-use Rattle.entry_codec.specs.LookUps.{is_same_sender, is_sender}
+use Rattle.entry_codec.specs.Empty.{application_sender, empty, gateway_sender, names_of, network_sender, put_sender, put_senders, sender_number, senders_of}
+use Rattle.entry_codec.specs.LookUps.{is_same_sender}
 use Rattle.entry_codec.proofs.Ordered.{all_put}
-use Rattle.js_core.specs.Parties.{application_named, is_known, network_of}
+use Rattle.js_core.specs.Parties.{application_named, is_known}
 use Rattle.roam_core.specs.Entering.{KnowsSenders}
 
 -- a NetID has 24 bits

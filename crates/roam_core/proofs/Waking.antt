@@ -1,5 +1,5 @@
 -- Which contexts a device has isn't looked at.
-use Rattle.std.proofs.Common.{◌≡◌, ℕ, zero, suc, List, [], ◌∷◌, Option, Some, None, option_map, slice_get, refl, sym, ap, ◌∙◌}
+use Rattle.std.proofs.Common.{◌≡◌, ℕ, zero, suc, List, [], ◌∷◌, Option, Some, None, option_map, slice_get, refl, ap, ◌∙◌}
 use Rattle.wire_ids.specs.Lists.{changed}
 use Rattle.wire_ids.proofs.Lists.{changed-cons}
 use Rattle.wire_ids.specs.declared.eui.Eui.{Eui}
@@ -12,7 +12,7 @@ use Rattle.backend_json.specs.declared.head.Head.{Head}
 use Rattle.backend_json.specs.declared.request.AppSKeyRequest.{AppSKeyRequest}
 use Rattle.backend_json.specs.declared.request.JoinRequest.{JoinRequest}
 use Rattle.backend_json.specs.declared.request.Request.{Request}
-use Rattle.backend_json.specs.declared.request.Request.TheVariants.{AppSKeyReq, HomeNSReq, JoinReq, RejoinReq, Unknown}
+use Rattle.backend_json.specs.declared.request.Request.TheVariants.{AppSKeyReq, HomeNSReq, JoinReq, RejoinReq, UplinkReq, Unknown}
 use Rattle.entry_codec.specs.Devices.{in_slots}
 use Rattle.entry_codec.specs.Machine.{Machine, wake}
 use Rattle.entry_codec.specs.declared.device.Device.{Device}
@@ -25,12 +25,12 @@ use Rattle.js_core.specs.declared.activation.Activation.TheVariants as by
 use Rattle.js_core.specs.Found.{Found, found_at, found_of, found_with}
 use Rattle.js_core.specs.Frames.{join_up_of}
 use Rattle.js_core.specs.Replies.{JsDecision, app_s_key_success_at, home_ns_success_at, join_success, join_success_at, js_decided, refuses}
-use Rattle.js_core.specs.Rules.{app_s_key_rules_at, by_rules, home_ns_rules_at, join_rules, join_rules_at, rules_of}
+use Rattle.js_core.specs.Rules.{app_s_key_rules_at, by_rules, home_ns_rules_at, join_rules, join_rules_at}
 use Rattle.js_core.specs.Steps.{seed_place}
 
 -- ---- the same device with other contexts
 
-record Other (o woken : Option Device) : Type 0 where
+pub record Other (o woken : Option Device) : Type 0 where
   pub slots : Slots → Slots
   pub is : woken ≡ option_map (in_slots slots) o
 
@@ -45,7 +45,7 @@ other-changed zero f (x ∷ xs) (suc i) = record { slots = λ s. s; is = as_it_i
 other-changed (suc k) f (x ∷ xs) zero = rw (changed-cons x xs k (in_slots f)) (record { slots = λ s. s; is = refl })
 other-changed (suc k) f (x ∷ xs) (suc i) = rw (changed-cons x xs k (in_slots f)) (other-changed k f xs i)
 
-other-wake : (who : Option Holder) (m : Machine) (i : ℕ) → Other (slice_get m.devices i) (slice_get (wake who m).devices i)
+pub other-wake : (who : Option Holder) (m : Machine) (i : ℕ) → Other (slice_get m.devices i) (slice_get (wake who m).devices i)
 other-wake None m i = record { slots = λ s. s; is = as_it_is (slice_get m.devices i) }
 other-wake (Some (holder.Device k)) m i = other-changed k activated m.devices i
 other-wake (Some (holder.Visitor dev)) m i = record { slots = λ s. s; is = as_it_is (slice_get m.devices i) }
@@ -119,4 +119,5 @@ wake_unread c nwk app who m head (AppSKeyReq request) =
 wake_unread c nwk app who m head (HomeNSReq request) =
     let other = of_other c who m request.dev_eui in
     ap (home_ns_at c nwk app head other.slots) other.is ∙ home_ns_other c nwk app head other.slots _
+wake_unread c nwk app who m head (UplinkReq request) = refl
 wake_unread c nwk app who m head Unknown = refl

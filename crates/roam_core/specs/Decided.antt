@@ -1,5 +1,5 @@
 -- What a request comes to, from the rule of its sender on.
-use Rattle.std.specs.Prelude.{◌≡◌, ℕ, List, [], Option, None, Bool, false, unwrap_or}
+use Rattle.std.specs.Prelude.{◌≡◌, ℕ, List, [], Option, None, Bool, true, false, unwrap_or, if◌then◌else◌}
 use Rattle.wire_ids.specs.declared.decision.Decision.{Decision}
 use Rattle.wire_ids.specs.declared.decision.Decision.TheVariants as decision
 use Rattle.agreements.specs.Walk.{Config}
@@ -7,6 +7,7 @@ use Rattle.backend_json.specs.Answers.{text_of}
 use Rattle.backend_json.specs.declared.answer.Answer.{Answer}
 use Rattle.backend_json.specs.declared.head.Head.{Head}
 use Rattle.backend_json.specs.declared.request.Request.{Request}
+use Rattle.backend_json.specs.declared.request.Request.TheVariants.{AppSKeyReq, HomeNSReq, JoinReq, RejoinReq, UplinkReq, Unknown}
 use Rattle.entries.specs.declared.change.Change.{Change}
 use Rattle.entries.specs.declared.entry.Entry.{Entry}
 use Rattle.entries.specs.declared.entry.Event.TheVariants as event
@@ -14,7 +15,9 @@ use Rattle.entry_codec.specs.Kept.{kept_answer}
 use Rattle.entry_codec.specs.LookUps.{is_asked}
 use Rattle.entry_codec.specs.Machine.{Machine, lapse}
 use Rattle.js_core.specs.declared.question.NoQuestion.{NoQuestion}
-use Rattle.js_core.specs.Replies.{JsDecision, js_decided, refused, success_of}
+use Rattle.js_core.specs.Replies.{JsDecision, js_decided, refused}
+use Rattle.js_core.specs.Replies as js
+use Rattle.ns_core.specs.Replies.{ns_decided, uplink_success}
 use Rattle.roam_core.specs.Desk.{Desk}
 use Rattle.roam_core.specs.Order.{Verdict, Refused, Kept, by_order, order, wrong_receiver, wrong_sender, wrong_type}
 
@@ -27,6 +30,15 @@ RoamDecision = Decision Answer NoQuestion Entry
 abbrev pub said : Head → Option (List ℕ) → Verdict → JsDecision
 said head kept (Refused cause) = decision.Reply (refused head cause)
 said head kept Kept = decision.Repeat (unwrap_or kept [])
+
+-- what a request comes to that no line stands against: the home network answers a gateway, and the join server all others
+abbrev pub success_of : Config → (ℕ → List ℕ) → (ℕ → List ℕ) → Machine → Head → Request → JsDecision
+success_of c nwk app m head (JoinReq request) = js.success_of c nwk app m head (JoinReq request)
+success_of c nwk app m head (RejoinReq request) = js.success_of c nwk app m head (RejoinReq request)
+success_of c nwk app m head (AppSKeyReq request) = js.success_of c nwk app m head (AppSKeyReq request)
+success_of c nwk app m head (HomeNSReq request) = js.success_of c nwk app m head (HomeNSReq request)
+success_of c nwk app m head (UplinkReq request) = uplink_success c nwk m head request
+success_of c nwk app m head Unknown = js.success_of c nwk app m head Unknown
 
 -- of a request in a state in which what has ended is gone, of which an answer was kept or not, and whose body an open ask has or not
 abbrev pub judged_at : Config → (ℕ → List ℕ) → (ℕ → List ℕ) → Machine → Head → Request → Option (List ℕ) → Bool → JsDecision
@@ -53,9 +65,22 @@ decided c nwk app s head request body now =
     let m = lapse now s.now in
     with_entry head body now (judged_at c nwk app m head request (kept_answer head.sender body s.kept) (is_asked body m))
 
--- ---- the join server's part
+-- ---- the parts
 
--- a request that no line before the frame's size stands against comes to what the join server makes of it
-abbrev pub JoinServersPart : Type 0
-JoinServersPart = (c : Config) (nwk app : ℕ → List ℕ) (m : Machine) (head : Head) (request : Request) → wrong_sender c head ≡ false → wrong_receiver c head ≡ false → wrong_type c head ≡ false
-    → judged_at c nwk app m head request None false ≡ js_decided c nwk app m head request
+-- a gateway sends it
+abbrev pub is_heard : Request → Bool
+is_heard (JoinReq request) = false
+is_heard (RejoinReq request) = false
+is_heard (AppSKeyReq request) = false
+is_heard (HomeNSReq request) = false
+is_heard (UplinkReq request) = true
+is_heard Unknown = false
+
+-- what the home network makes of a request of a gateway, and the join server of any other
+abbrev pub by_part : Config → (ℕ → List ℕ) → (ℕ → List ℕ) → Machine → Head → Request → JsDecision
+by_part c nwk app m head request = if is_heard request then ns_decided c nwk m head request else js_decided c nwk app m head request
+
+-- a request that no line before the frame's size stands against comes to what its part makes of it
+abbrev pub PartsDecide : Type 0
+PartsDecide = (c : Config) (nwk app : ℕ → List ℕ) (m : Machine) (head : Head) (request : Request) → wrong_sender c head ≡ false → wrong_receiver c head ≡ false → wrong_type c head ≡ false
+    → judged_at c nwk app m head request None false ≡ by_part c nwk app m head request

@@ -3,15 +3,17 @@ use Rattle.std.specs.Prelude.{◌≡◌, ℕ, nat_lt, List, Some, Bool, true, fa
 use Rattle.wire_ids.specs.declared.decision.Decision.TheVariants as decision
 use Rattle.wire_ids.specs.declared.keys.RootKeys.{RootKeys}
 use Rattle.wire_ids.specs.declared.party.Sender.{Sender}
+use Rattle.agreements.specs.LookUps.{AreFound as HasPlaces}
 use Rattle.agreements.specs.Walk.{Config}
 use Rattle.backend_json.specs.declared.answer.Answer.{Answer}
 use Rattle.backend_json.specs.declared.answer.Answer.TheVariants.{Headed, Headless}
-use Rattle.backend_json.specs.declared.answer.Outcome.TheVariants.{AppSKeyAns, HomeNSAns, JoinAns, Refused, RejoinAns}
+use Rattle.backend_json.specs.declared.answer.Outcome.TheVariants.{AppSKeyAns, HomeNSAns, JoinAns, Refused, RejoinAns, UplinkAns}
 use Rattle.entries.specs.declared.entry.Entry.{Entry}
 use Rattle.entry_codec.specs.Empty.{empty}
 use Rattle.entry_codec.specs.Fits.{fits, is_time}
 use Rattle.entry_codec.specs.LookUps.{is_sender}
 use Rattle.entry_codec.specs.Machine.{Machine, after}
+use Rattle.entry_codec.specs.Sound.{IsSound}
 use Rattle.js_core.specs.Parties.{is_known}
 use Rattle.roam_core.specs.Decided.{RoamDecision}
 use Rattle.roam_core.specs.Desk.{Desk, IsStateOf}
@@ -30,9 +32,10 @@ pub record CanEnter (c : Config) (m : Machine) (now : ℕ) : Type 0 where
   pub begun : IsTrue (nat_lt 0 m.entries)
   pub time : IsTrue (is_time now m)
 
+-- over tables in which no DevEUI has two rows, in each state such as entries lead to
 abbrev pub EntriesFit : Type 0
 EntriesFit = (c : Config) (keys : List RootKeys) (s : Desk) (body : List ℕ) (now : ℕ) (e : Entry)
-    → CanEnter c s.now now → (reaction c keys s body now).entry ≡ Some e → IsTrue (fits s.now e)
+    → HasPlaces c.devices → IsSound s.now → CanEnter c s.now now → (reaction c keys s body now).entry ≡ Some e → IsTrue (fits s.now e)
 
 -- the first state is one of its tables, and every entry leaves it so
 pub record StatesStay : Type 0 where
@@ -41,7 +44,7 @@ pub record StatesStay : Type 0 where
 
 -- ---- what makes an entry
 
--- an answer that gives a device a session
+-- an answer that gives a device a session, or counts its uplink
 abbrev pub gives_session : Answer → Bool
 gives_session Headless = false
 gives_session (Headed head (Refused cause)) = false
@@ -49,6 +52,7 @@ gives_session (Headed head (JoinAns members)) = true
 gives_session (Headed head (RejoinAns members)) = true
 gives_session (Headed head (AppSKeyAns members)) = false
 gives_session (Headed head (HomeNSAns members)) = false
+gives_session (Headed head (UplinkAns members)) = true
 
 abbrev pub enters : RoamDecision → Bool
 enters (decision.Repeat text) = false
@@ -56,6 +60,6 @@ enters (decision.Reply answer) = false
 enters (decision.Accept answer e) = gives_session answer
 enters (decision.AskPeer peer question e) = true
 
--- a refusal, a kept answer, an AppSKeyAns and a HomeNSAns make no entry and change nothing
+-- a refusal, a kept answer, an AppSKeyAns, a HomeNSAns and the answer to a duplicate make no entry and change nothing
 abbrev pub RepliesKeep : Type 0
 RepliesKeep = (c : Config) (keys : List RootKeys) (s : Desk) (body : List ℕ) (now : ℕ) → enters (line_decided c keys s body now) ≡ false → state_after c keys s body now ≡ s

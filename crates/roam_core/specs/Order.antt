@@ -6,15 +6,17 @@ use Rattle.backend_json.specs.Refusals.{number_of}
 use Rattle.backend_json.specs.Types.{receiver_of, sender_of}
 use Rattle.backend_json.specs.declared.head.Head.{Head}
 use Rattle.backend_json.specs.declared.refusal.Refusal.{Refusal}
-use Rattle.backend_json.specs.declared.refusal.Refusal.TheVariants.{Sender, Receiver, «Type», Asked, Size, Frame, Device, Home, Suspended, Eui, Mic, Counter, Spent, Session}
+use Rattle.backend_json.specs.declared.refusal.Refusal.TheVariants.{Sender, Receiver, «Type», Asked, Size, Frame, Device, Address, Home, Suspended, Eui, Mic, Counter, Spent, AddressesSpent, Session}
 use Rattle.backend_json.specs.declared.request.Request.{Request}
-use Rattle.backend_json.specs.declared.request.Request.TheVariants.{AppSKeyReq, HomeNSReq, JoinReq, RejoinReq, Unknown}
+use Rattle.backend_json.specs.declared.request.Request.TheVariants.{AppSKeyReq, HomeNSReq, JoinReq, RejoinReq, UplinkReq, Unknown}
 use Rattle.entry_codec.specs.Machine.{Machine}
 use Rattle.js_core.specs.declared.activation.Activation.TheVariants as by
 use Rattle.js_core.specs.Found.{Found, found_of}
 use Rattle.js_core.specs.Frames.{join_up_of, wrong_frame, wrong_size}
 use Rattle.js_core.specs.Parties.{is_known, may_send, reaches}
 use Rattle.js_core.specs.Rules as js
+use Rattle.ns_core.specs.Heard.{Heard, Neither, heard_of}
+use Rattle.ns_core.specs.Rules as ns
 
 -- what a line comes to, where it holds: the request is refused, or gets the answer that was kept for it
 pub data Verdict : Type 0 where
@@ -45,14 +47,16 @@ size (JoinReq request) = wrong_size request.phy_payload
 size (RejoinReq request) = wrong_size request.phy_payload
 size (AppSKeyReq request) = false
 size (HomeNSReq request) = false
+size (UplinkReq request) = wrong_size request.phy_payload
 size Unknown = false
 
-abbrev pub frame : Request → Bool
-frame (JoinReq request) = wrong_frame by.Join request (join_up_of request.phy_payload)
-frame (RejoinReq request) = wrong_frame by.Rejoin request (join_up_of request.phy_payload)
-frame (AppSKeyReq request) = false
-frame (HomeNSReq request) = false
-frame Unknown = false
+abbrev pub frame : Heard → Request → Bool
+frame heard (JoinReq request) = wrong_frame by.Join request (join_up_of request.phy_payload)
+frame heard (RejoinReq request) = wrong_frame by.Rejoin request (join_up_of request.phy_payload)
+frame heard (AppSKeyReq request) = false
+frame heard (HomeNSReq request) = false
+frame heard (UplinkReq request) = ns.wrong_frame heard
+frame heard Unknown = false
 
 -- the device that a request names
 abbrev pub device_of : Config → Machine → Request → Option Found
@@ -60,88 +64,125 @@ device_of c m (JoinReq request) = found_of c m request.dev_eui
 device_of c m (RejoinReq request) = found_of c m request.dev_eui
 device_of c m (AppSKeyReq request) = found_of c m request.dev_eui
 device_of c m (HomeNSReq request) = found_of c m request.dev_eui
+device_of c m (UplinkReq request) = None
 device_of c m Unknown = None
 
-abbrev pub device : Head → Option Found → Request → Bool
-device head found (JoinReq request) = is_none found
-device head found (RejoinReq request) = is_none found
-device head found (AppSKeyReq request) = js.wrong_app head found
-device head found (HomeNSReq request) = is_none found
-device head found Unknown = false
+-- what a gateway heard that sends a request
+abbrev pub heard_in : Config → Machine → Request → Heard
+heard_in c m (JoinReq request) = Neither
+heard_in c m (RejoinReq request) = Neither
+heard_in c m (AppSKeyReq request) = Neither
+heard_in c m (HomeNSReq request) = Neither
+heard_in c m (UplinkReq request) = heard_of c m request.phy_payload
+heard_in c m Unknown = Neither
+
+abbrev pub device : Head → Option Found → Heard → Request → Bool
+device head found heard (JoinReq request) = is_none found
+device head found heard (RejoinReq request) = is_none found
+device head found heard (AppSKeyReq request) = js.wrong_app head found
+device head found heard (HomeNSReq request) = is_none found
+device head found heard (UplinkReq request) = ns.wrong_device heard
+device head found heard Unknown = false
+
+abbrev pub address : Heard → Request → Bool
+address heard (JoinReq request) = false
+address heard (RejoinReq request) = false
+address heard (AppSKeyReq request) = false
+address heard (HomeNSReq request) = false
+address heard (UplinkReq request) = ns.wrong_address heard
+address heard Unknown = false
 
 abbrev pub home : Head → Option Found → Request → Bool
 home head found (JoinReq request) = js.wrong_home head found
 home head found (RejoinReq request) = js.wrong_home head found
 home head found (AppSKeyReq request) = false
 home head found (HomeNSReq request) = false
+home head found (UplinkReq request) = false
 home head found Unknown = false
 
-abbrev pub suspended : Option Found → Request → Bool
-suspended found (JoinReq request) = js.is_suspended found
-suspended found (RejoinReq request) = js.is_suspended found
-suspended found (AppSKeyReq request) = false
-suspended found (HomeNSReq request) = false
-suspended found Unknown = false
+abbrev pub suspended : Option Found → Heard → Request → Bool
+suspended found heard (JoinReq request) = js.is_suspended found
+suspended found heard (RejoinReq request) = js.is_suspended found
+suspended found heard (AppSKeyReq request) = false
+suspended found heard (HomeNSReq request) = false
+suspended found heard (UplinkReq request) = ns.is_suspended heard
+suspended found heard Unknown = false
 
-abbrev pub eui : Option Found → Request → Bool
-eui found (JoinReq request) = js.wrong_eui (join_up_of request.phy_payload) found
-eui found (RejoinReq request) = js.wrong_eui (join_up_of request.phy_payload) found
-eui found (AppSKeyReq request) = false
-eui found (HomeNSReq request) = false
-eui found Unknown = false
+abbrev pub eui : Option Found → Heard → Request → Bool
+eui found heard (JoinReq request) = js.wrong_eui (join_up_of request.phy_payload) found
+eui found heard (RejoinReq request) = js.wrong_eui (join_up_of request.phy_payload) found
+eui found heard (AppSKeyReq request) = false
+eui found heard (HomeNSReq request) = false
+eui found heard (UplinkReq request) = ns.wrong_eui heard
+eui found heard Unknown = false
 
-abbrev pub mic : (ℕ → List ℕ) → Option Found → Request → Bool
-mic nwk found (JoinReq request) = js.wrong_mic nwk request.phy_payload (join_up_of request.phy_payload) found
-mic nwk found (RejoinReq request) = js.wrong_mic nwk request.phy_payload (join_up_of request.phy_payload) found
-mic nwk found (AppSKeyReq request) = false
-mic nwk found (HomeNSReq request) = false
-mic nwk found Unknown = false
+abbrev pub mic : (ℕ → List ℕ) → Option Found → Heard → Request → Bool
+mic nwk found heard (JoinReq request) = js.wrong_mic nwk request.phy_payload (join_up_of request.phy_payload) found
+mic nwk found heard (RejoinReq request) = js.wrong_mic nwk request.phy_payload (join_up_of request.phy_payload) found
+mic nwk found heard (AppSKeyReq request) = false
+mic nwk found heard (HomeNSReq request) = false
+mic nwk found heard (UplinkReq request) = ns.wrong_mic nwk request heard
+mic nwk found heard Unknown = false
 
-abbrev pub counter : (ℕ → List ℕ) → Option Found → Request → Bool
-counter nwk found (JoinReq request) = js.low_counter nwk request.phy_payload (join_up_of request.phy_payload) found
-counter nwk found (RejoinReq request) = js.low_counter nwk request.phy_payload (join_up_of request.phy_payload) found
-counter nwk found (AppSKeyReq request) = false
-counter nwk found (HomeNSReq request) = false
-counter nwk found Unknown = false
+abbrev pub counter : (ℕ → List ℕ) → Option Found → Heard → Request → Bool
+counter nwk found heard (JoinReq request) = js.low_counter nwk request.phy_payload (join_up_of request.phy_payload) found
+counter nwk found heard (RejoinReq request) = js.low_counter nwk request.phy_payload (join_up_of request.phy_payload) found
+counter nwk found heard (AppSKeyReq request) = false
+counter nwk found heard (HomeNSReq request) = false
+counter nwk found heard (UplinkReq request) = ns.low_counter nwk request heard
+counter nwk found heard Unknown = false
 
-abbrev pub spent : Option Found → Request → Bool
-spent found (JoinReq request) = js.is_spent found
-spent found (RejoinReq request) = js.is_spent found
-spent found (AppSKeyReq request) = false
-spent found (HomeNSReq request) = false
-spent found Unknown = false
+abbrev pub spent : Option Found → Heard → Request → Bool
+spent found heard (JoinReq request) = js.is_spent found
+spent found heard (RejoinReq request) = js.is_spent found
+spent found heard (AppSKeyReq request) = false
+spent found heard (HomeNSReq request) = false
+spent found heard (UplinkReq request) = ns.is_spent heard
+spent found heard Unknown = false
+
+abbrev pub addresses_spent : Config → (ℕ → List ℕ) → Machine → Heard → Request → Bool
+addresses_spent c nwk m heard (JoinReq request) = false
+addresses_spent c nwk m heard (RejoinReq request) = false
+addresses_spent c nwk m heard (AppSKeyReq request) = false
+addresses_spent c nwk m heard (HomeNSReq request) = false
+addresses_spent c nwk m heard (UplinkReq request) = ns.no_address c nwk m request heard
+addresses_spent c nwk m heard Unknown = false
 
 abbrev pub session : Option Found → Request → Bool
 session found (JoinReq request) = false
 session found (RejoinReq request) = false
 session found (AppSKeyReq request) = js.wrong_session request found
 session found (HomeNSReq request) = false
+session found (UplinkReq request) = false
 session found Unknown = false
 
 -- ---- the order
 
--- the lines for a request of which an answer was kept or not, whose body an open ask has or not, and which names this device
-abbrev pub order_at : Config → (ℕ → List ℕ) → Head → Request → Option (List ℕ) → Bool → Option Found → List Line
-order_at c nwk head request kept asked found =
+-- the lines for a request of which an answer was kept or not, whose body an open ask has or not, which names this device, or with
+-- which a gateway heard this
+abbrev pub order_at : Config → (ℕ → List ℕ) → Machine → Head → Request → Option (List ℕ) → Bool → Option Found → Heard → List Line
+order_at c nwk m head request kept asked found heard =
     refuses 3 Sender (wrong_sender c head)
     ∷ refuses 4 Receiver (wrong_receiver c head)
     ∷ refuses 5 «Type» (wrong_type c head)
     ∷ record { number = 6; verdict = Kept; holds = is_some kept }
     ∷ refuses 7 Asked asked
     ∷ refuses 8 Size (size request)
-    ∷ refuses 9 Frame (frame request)
-    ∷ refuses 10 Device (device head found request)
+    ∷ refuses 9 Frame (frame heard request)
+    ∷ refuses 10 Device (device head found heard request)
+    ∷ refuses 11 Address (address heard request)
     ∷ refuses 12 Home (home head found request)
-    ∷ refuses 13 Suspended (suspended found request)
-    ∷ refuses 18 Eui (eui found request)
-    ∷ refuses 19 Mic (mic nwk found request)
-    ∷ refuses 20 Counter (counter nwk found request)
-    ∷ refuses 21 Spent (spent found request)
+    ∷ refuses 13 Suspended (suspended found heard request)
+    ∷ refuses 18 Eui (eui found heard request)
+    ∷ refuses 19 Mic (mic nwk found heard request)
+    ∷ refuses 20 Counter (counter nwk found heard request)
+    ∷ refuses 21 Spent (spent found heard request)
+    ∷ refuses 22 AddressesSpent (addresses_spent c nwk m heard request)
     ∷ refuses 27 Session (session found request)
     ∷ []
 
 unfoldable pub order : Config → (ℕ → List ℕ) → Machine → Head → Request → Option (List ℕ) → Bool → List Line
-order c nwk m head request kept asked = order_at c nwk head request kept asked (device_of c m request)
+order c nwk m head request kept asked = order_at c nwk m head request kept asked (device_of c m request) (heard_in c m request)
 
 -- the first line that holds is said, and else the request succeeds
 abbrev pub by_order : {D : Type 0} → (Verdict → D) → List Line → D → D

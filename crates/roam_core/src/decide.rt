@@ -7,7 +7,8 @@ ghost use Rattle.entry_codec.specs.LookUps.{is_asked};
 ghost use Rattle.entry_codec.specs.Machine.{lapse};
 ghost use Rattle.key_vault.specs.Table.{app_at, nwk_at};
 ghost use Rattle.backend_json.specs.declared.head.Head as heads;
-ghost use Rattle.roam_core.specs.Decided.{decided, entry_in, judged_at, with_entry};
+ghost use Rattle.roam_core.specs.Decided.{by_part, decided, entry_in, is_heard, judged_at};
+ghost use Rattle.roam_core.specs.Decided.{with_entry};
 ghost use Rattle.roam_core.specs.Desk.{desk_of};
 ghost use Rattle.roam_core.specs.Texts.{HasText, kept_text};
 
@@ -17,6 +18,7 @@ use entries::{Change, Entry, Event};
 use entry_codec::State;
 use js_core::{JsDecision, NoQuestion, is_known, js_decide, may_send, reaches, refused};
 use key_vault::{BlockFn, Vault};
+use ns_core::ns_decide;
 use std::alloc::Global;
 use wire_ids::{Decision, Memory, Moment, Sender, ShortText, Text};
 
@@ -92,6 +94,39 @@ fn with_entry<'a>(
     }
 }
 
+// Whether a gateway sends it.
+fn is_heard(request: &Request) -> bool
+    ensures { result ≡ is_heard request.now }
+{
+    match request {
+        Request::UplinkReq(_) => true,
+        Request::JoinReq(_)
+        | Request::RejoinReq(_)
+        | Request::AppSKeyReq(_)
+        | Request::HomeNSReq(_)
+        | Request::Unknown => false,
+    }
+}
+
+// What the home network makes of a request of a gateway, and the join server of any other.
+fn by_part<'a, E: BlockFn, D: BlockFn>(
+    alloc: Global,
+    tables: &'a Tables,
+    vault: &Vault<E, D>,
+    state: &State,
+    message: Message,
+    now: Moment,
+) -> Result<JsDecision<'a>, Memory>
+    requires keys { length vault.now ≡ length tables.now.devices }
+    ensures { IfOk result (λ d. d ≡ by_part tables.now (nwk_at vault.now) (app_at vault.now)
+        (lapse now.0 state.now.now) message.head message.request) }
+{
+    if is_heard(&message.request) {
+        return ns_decide(alloc, tables, vault, state, message, now);
+    }
+    js_decide(alloc, tables, vault, state, message, now)
+}
+
 // The answer, and what changes, where what has ended is gone.
 #[tactic(auto, unfolding(crate::specs::Order::order))]
 fn judged<'a, E: BlockFn, D: BlockFn>(
@@ -125,7 +160,7 @@ fn judged<'a, E: BlockFn, D: BlockFn>(
     if state.is_asked(body, now) {
         return Ok(Decision::Reply(refused(head, Refusal::Asked)));
     }
-    js_decide(alloc, tables, vault, state, Message { head, request }, now)
+    by_part(alloc, tables, vault, state, Message { head, request }, now)
 }
 
 /// What a message comes to at a moment, from the rule of its sender on: first what has ended by

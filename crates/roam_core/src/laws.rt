@@ -2,7 +2,7 @@
 
 ghost use Rattle.roam_core.specs.Agreement.{KeptAgree, LinesAgree};
 ghost use Rattle.roam_core.specs.AppKey.{AppKeyStays};
-ghost use Rattle.roam_core.specs.Decided.{JoinServersPart};
+ghost use Rattle.roam_core.specs.Decided.{PartsDecide};
 ghost use Rattle.roam_core.specs.Entering.{EntriesFit, RepliesKeep, StatesStay};
 ghost use Rattle.roam_core.specs.Issues.{HistoriesIssueOnce};
 ghost use Rattle.roam_core.specs.Legal.{LinesGoOn};
@@ -14,13 +14,14 @@ pub fn numbers_rise()
     ensures { NumbersRise }
 {}
 
-/// A request that no line of the order before the frame's size stands against comes to what the
-/// join server makes of it.
-pub fn join_servers_part()
-    ensures { JoinServersPart }
+/// A request that no line of the order before the frame's size stands against comes to what its
+/// part makes of it: the home network of a gateway's request, the join server of any other.
+pub fn parts_decide()
+    ensures { PartsDecide }
 {}
 
-/// The entry that a line makes fits the state in which it is made.
+/// Over tables in which no DevEUI has two rows, the entry that a line makes fits the state in which
+/// it is made, which is one such as entries lead to.
 pub fn entries_fit()
     ensures { EntriesFit }
 {}
@@ -30,7 +31,8 @@ pub fn states_stay()
     ensures { StatesStay }
 {}
 
-/// A refusal, a kept answer, and an answer that gives no session make no entry and change nothing.
+/// A refusal, a kept answer, the answer to a duplicate, and one that neither gives a session nor
+/// counts an uplink, make no entry and change nothing.
 pub fn replies_keep()
     ensures { RepliesKeep }
 {}

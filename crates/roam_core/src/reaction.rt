@@ -141,6 +141,7 @@ pub fn react<E: BlockFn, D: BlockFn>(
         (line_decided tables.now vault.now (desk_of state.now) line.now now.0) }
 {
     entries_fit();
+    state.sound();
     tables.devices();
     lines_agree();
     reaction_of(alloc, line_decided(alloc, tables, vault, state, line, now)?)

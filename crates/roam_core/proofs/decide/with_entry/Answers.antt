@@ -1,4 +1,4 @@
-use Rattle.std.proofs.Common.{◌≡◌, ap}
+use Rattle.std.proofs.Common.{ap}
 use Rattle.wire_ids.specs.declared.decision.Decision.TheVariants as decision
 use Rattle.entries.specs.declared.entry.Entry.{Entry}
 use Rattle.roam_core.specs.Decided.{RoamDecision}

@@ -14,4 +14,4 @@ returns-clause-fits g c =
     let line = c.args.line.now in
     let now = c.args.now.0 in
     IfOk-weaker c.reaction_of.result _ _ (λ r made. some_such (λ (e : Entry). IsTrue (fits desk.now e)) r.entry (λ e some.
-    c.entries_fit.ensures config keys desk line now e c.requires.can (reaction_entry config keys desk line now c.in_ok-line_decided.field-0 r.entry e c.in_ok-line_decided.ensures.value made some))) c.reaction_of.ensures.entry
+    c.entries_fit.ensures config keys desk line now e c.devices.ensures.places c.sound.ensures.sound c.requires.can (reaction_entry config keys desk line now c.in_ok-line_decided.field-0 r.entry e c.in_ok-line_decided.ensures.value made some))) c.reaction_of.ensures.entry

@@ -1,4 +1,3 @@
-use Rattle.std.proofs.Common.{◌≡◌, subst}
 use Rattle.roam_core.proofs.SenderRows.{knows_senders}
 use Rattle.roam_core.proofs.senders.knows_senders.Goals as goal
 

@@ -24,7 +24,7 @@ use Rattle.js_core.proofs.Causes.{first_said, none_said}
 use Rattle.ns_core.specs.Frames.{addr_of, is_data}
 use Rattle.ns_core.specs.Heard.{Heard, Join, Data, Neither, heard_by, heard_of}
 use Rattle.ns_core.specs.Own.{own_context}
-use Rattle.ns_core.specs.Replies.{activated_with, counted_with, heard_answer, ns_decided, success_at, uplink_decided, uplink_success}
+use Rattle.ns_core.specs.Replies.{activated_with, counted_with, duplicate_answer, ns_decided, success_at, uplink_decided, uplink_success}
 use Rattle.ns_core.specs.Rules.{uplink_rules, uplink_rules_at}
 use Rattle.ns_core.specs.Speakers.{Speaker, count_of, is_duplicate, speaker_of}
 use Rattle.ns_core.specs.declared.valid.Count.{Count}
@@ -50,8 +50,8 @@ pub record HoldsInCases (c : Config) (nwk : ℕ → List ℕ) (m : Machine) (hea
   pub refusal : (why : Refusal) → P (refuses head why)
   pub activation : (request : UplinkRequest) (up : JoinUp) (f : Found) (own : OwnContext) → IsActivation c nwk m request up f own
       → P (activated_with nwk head up f (step_of (nwk f.device) request.phy_payload up f.kept) (Some own))
-  pub duplicate : (s : Speaker) → (let d : JsDecision = decision.Reply (heard_answer head s s.context.last) in P d)
-  pub uplink : (request : UplinkRequest) (s : Speaker) (v : Count) → IsUplink c nwk m request s v → P (counted_with head request s (Some v))
+  pub duplicate : (s : Speaker) → (let d : JsDecision = decision.Reply (duplicate_answer head s) in P d)
+  pub uplink : (request : UplinkRequest) (s : Speaker) (v : Count) → IsUplink c nwk m request s v → P (counted_with nwk head request s (Some v))
 
 not_not : (b : Bool) → not b ≡ false → b ≡ true
 not_not true h = refl
@@ -68,12 +68,12 @@ module _ (c : Config) (nwk : ℕ → List ℕ) (m : Machine) (head : Head) (P : 
   own_case request up f (Some own) is then = holds.activation request up f own (then own refl)
 
   count_case : (request : UplinkRequest) (s : Speaker) (v : Option Count) → is_data request.phy_payload ≡ true → speaker_of c m (addr_of request.phy_payload) ≡ Some s → is_duplicate request.phy_payload s ≡ false
-      → count_of nwk request.phy_payload request.data_rate s ≡ v → P (counted_with head request s v)
+      → count_of nwk request.phy_payload request.data_rate s ≡ v → P (counted_with nwk head request s v)
   count_case request s None up is new counts = holds.refusal cause.Mic
   count_case request s (Some v) up is new counts = holds.uplink request s v (record { is_up = up; is_speaker = is; new = new; is_count = counts })
 
   spoken_case : (request : UplinkRequest) (s : Speaker) (same : Bool) → is_data request.phy_payload ≡ true → speaker_of c m (addr_of request.phy_payload) ≡ Some s → is_duplicate request.phy_payload s ≡ same
-      → (let d : JsDecision = decision.Reply (heard_answer head s s.context.last) in P (cond same d (counted_with head request s (count_of nwk request.phy_payload request.data_rate s))))
+      → (let d : JsDecision = decision.Reply (duplicate_answer head s) in P (cond same d (counted_with nwk head request s (count_of nwk request.phy_payload request.data_rate s))))
   spoken_case request s true up is same = holds.duplicate s
   spoken_case request s false up is new = count_case request s (count_of nwk request.phy_payload request.data_rate s) up is new refl
 

@@ -1,6 +1,7 @@
 pub mod Least
 pub mod Reading
 pub mod Counting
+mod Downlinks
 mod Lapsing
 mod Rules
 pub mod Cases

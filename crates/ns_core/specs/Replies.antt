@@ -17,7 +17,6 @@ use Rattle.contexts.specs.declared.context.Origin.{Origin}
 use Rattle.contexts.specs.declared.context.Origin.TheVariants.{Given, Seeded}
 use Rattle.entries.specs.declared.change.Change.{Change}
 use Rattle.entries.specs.declared.change.Change.TheVariants as change
-use Rattle.entries.specs.declared.change.Downlink.TheVariants as down
 use Rattle.entries.specs.declared.change.OwnContext.{OwnContext}
 use Rattle.entry_codec.specs.Machine.{Machine}
 use Rattle.join_frames.specs.Accepts.{accept_text}
@@ -27,10 +26,11 @@ use Rattle.js_core.specs.Replies.{JsDecision, home_accept, refuses}
 use Rattle.js_core.specs.Rules.{by_rules}
 use Rattle.js_core.specs.Steps.{change_of, step_of}
 use Rattle.js_core.specs.declared.step.JoinStep.{JoinStep}
+use Rattle.ns_core.specs.Downlinks.{down_fields, down_of, text_under}
 use Rattle.ns_core.specs.Heard.{Heard, Join, Data, Neither, heard_of}
 use Rattle.ns_core.specs.Own.{own_context}
 use Rattle.ns_core.specs.Rules.{uplink_rules}
-use Rattle.ns_core.specs.Speakers.{Speaker, count_of, is_duplicate}
+use Rattle.ns_core.specs.Speakers.{Speaker, count_of, is_duplicate, keys_of}
 use Rattle.ns_core.specs.declared.valid.Count.{Count}
 
 -- ---- joins and rejoins
@@ -63,14 +63,26 @@ abbrev pub session_of : Eui → Origin → Option SessionKeyId
 session_of dev (Seeded seed) = Some (record { dev_eui = dev; join_nonce = seed.nonce })
 session_of dev (Given number keys) = None
 
--- whoever sent the frame is told the device and the full counter
-abbrev pub heard_members : Speaker → Option ℕ → UplinkAnswer
-heard_members s count = record { dev_eui = s.dev_eui; f_cnt_up = count; phy_payload = None; session_key_id = session_of s.dev_eui s.context.origin }
+-- whoever sent the frame is told the device and the full counter, and is given the downlink where there is one
+abbrev pub heard_members : Speaker → Option ℕ → Option (List ℕ) → UplinkAnswer
+heard_members s count down = record { dev_eui = s.dev_eui; f_cnt_up = count; phy_payload = down; session_key_id = session_of s.dev_eui s.context.origin }
 
-abbrev pub heard_answer : Head → Speaker → Option ℕ → Answer
-heard_answer head s count = Headed head (UplinkAns (heard_members s count))
+abbrev pub heard_answer : Head → Speaker → Option ℕ → Option (List ℕ) → Answer
+heard_answer head s count down = Headed head (UplinkAns (heard_members s count down))
 
--- the uplink is kept as the last one of its context, and no downlink is sent
+-- a duplicate has no downlink
+abbrev pub duplicate_answer : Head → Speaker → Answer
+duplicate_answer head s = heard_answer head s s.context.last None
+
+-- the downlink behind an uplink, under the session's keys
+unfoldable pub down_behind : (ℕ → List ℕ) → UplinkRequest → Speaker → ℕ → Option (List ℕ)
+down_behind nwk request s count =
+    text_under (keys_of nwk s.holder s.context.origin) (down_fields s.context request.phy_payload request.data_rate count)
+
+abbrev pub counted_answer : (ℕ → List ℕ) → Head → UplinkRequest → Speaker → ℕ → Answer
+counted_answer nwk head request s count = heard_answer head s (Some count) (down_behind nwk request s count)
+
+-- the uplink is kept as the last one of its context, with which downlink answers it
 abbrev pub up_of : Speaker → UplinkRequest → Count → Change
 up_of s request v = change.Up (record {
   dev_eui = s.dev_eui;
@@ -78,18 +90,18 @@ up_of s request v = change.Up (record {
   count = v.count;
   frame = request.phy_payload;
   channel = v.channel;
-  down = down.Nothing;
+  down = down_of s.context request.phy_payload request.data_rate;
 })
 
-abbrev pub counted_with : Head → UplinkRequest → Speaker → Option Count → JsDecision
-counted_with head request s None = refuses head cause.Mic
-counted_with head request s (Some v) = decision.Accept (heard_answer head s (Some v.count)) (up_of s request v)
+abbrev pub counted_with : (ℕ → List ℕ) → Head → UplinkRequest → Speaker → Option Count → JsDecision
+counted_with nwk head request s None = refuses head cause.Mic
+counted_with nwk head request s (Some v) = decision.Accept (counted_answer nwk head request s v.count) (up_of s request v)
 
 -- a duplicate gets the same counter, and changes nothing
 abbrev pub spoken : (ℕ → List ℕ) → Head → UplinkRequest → Speaker → JsDecision
 spoken nwk head request s =
-    if is_duplicate request.phy_payload s then decision.Reply (heard_answer head s s.context.last)
-    else counted_with head request s (count_of nwk request.phy_payload request.data_rate s)
+    if is_duplicate request.phy_payload s then decision.Reply (duplicate_answer head s)
+    else counted_with nwk head request s (count_of nwk request.phy_payload request.data_rate s)
 
 abbrev pub data_success : (ℕ → List ℕ) → Head → UplinkRequest → Option Speaker → JsDecision
 data_success nwk head request None = refuses head cause.Address

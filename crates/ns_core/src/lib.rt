@@ -3,6 +3,7 @@
 
 mod activation;
 mod decide;
+mod downlink;
 mod frames;
 pub mod laws;
 mod own;

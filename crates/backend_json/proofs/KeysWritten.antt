@@ -6,8 +6,9 @@ use Rattle.backend_json.specs.declared.answer.AppSKeyAnswer.{AppSKeyAnswer}
 use Rattle.backend_json.specs.declared.answer.HomeNsAnswer.{HomeNsAnswer}
 use Rattle.backend_json.specs.declared.answer.JoinAnswer.{JoinAnswer}
 use Rattle.backend_json.specs.declared.answer.KeyEnvelope.{KeyEnvelope}
-use Rattle.backend_json.specs.declared.answer.Outcome.TheVariants.{AppSKeyAns, HomeNSAns, JoinAns, Refused, RejoinAns, UplinkAns}
+use Rattle.backend_json.specs.declared.answer.Outcome.TheVariants.{AppSKeyAns, HomeNSAns, JoinAns, Refused, RejoinAns, UplinkAns, XmitDataAns}
 use Rattle.backend_json.specs.declared.answer.UplinkAnswer.{UplinkAnswer}
+use Rattle.backend_json.specs.declared.answer.XmitDataAnswer.{XmitDataAnswer}
 use Rattle.backend_json.specs.declared.head.Head.{Head}
 use Rattle.backend_json.specs.declared.refusal.Refusal.{Refusal}
 use Rattle.backend_json.specs.declared.session.SessionKeyId.{SessionKeyId}
@@ -74,6 +75,10 @@ uplink_written head answer = rw (
   session_read (codes "SessionKeyID") answer.session_key_id,
 ) refl
 
+pub xmit_data_written : (head : Head) (answer : XmitDataAnswer) → key_members (Headed head (XmitDataAns answer)) ≡ []
+unfolding key_members answer_members named result_data
+xmit_data_written head answer = rw (bytes_read (codes "PHYPayload") answer.phy_payload) refl
+
 one_read : (name : List ℕ) (key : Option KeyEnvelope) → read name key ++ [] ≡ key_if name key
 one_read name key = rw (key_read name key, append-nil (key_if name key)) refl
 
@@ -82,4 +87,4 @@ unfolding key_members answer_members named result_data
 app_s_key_written head answer = one_read (codes "AppSKey") answer.app_s_key
 
 pub keys_are_written : KeysAreWritten
-keys_are_written = record { headless = headless_written; refused = none_written; join = join_written; rejoin = rejoin_written; app_s_key = app_s_key_written; home_ns = home_ns_written; uplink = uplink_written }
+keys_are_written = record { headless = headless_written; refused = none_written; join = join_written; rejoin = rejoin_written; app_s_key = app_s_key_written; home_ns = home_ns_written; uplink = uplink_written; xmit_data = xmit_data_written }

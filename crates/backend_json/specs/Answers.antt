@@ -20,7 +20,7 @@ use Rattle.backend_json.specs.declared.answer.Answer.TheVariants.{Headless, Head
 use Rattle.backend_json.specs.declared.answer.JoinAnswer.{JoinAnswer}
 use Rattle.backend_json.specs.declared.answer.KeyEnvelope.{KeyEnvelope}
 use Rattle.backend_json.specs.declared.answer.Outcome.{Outcome}
-use Rattle.backend_json.specs.declared.answer.Outcome.TheVariants.{Refused, JoinAns, RejoinAns, AppSKeyAns, HomeNSAns, UplinkAns}
+use Rattle.backend_json.specs.declared.answer.Outcome.TheVariants.{Refused, JoinAns, RejoinAns, AppSKeyAns, HomeNSAns, UplinkAns, XmitDataAns}
 use Rattle.backend_json.specs.Objects.{Field, field, object_text}
 use Rattle.backend_json.specs.Refusals.{code_of, code_text, description_of}
 use Rattle.backend_json.specs.Types.{answer_name}
@@ -167,6 +167,7 @@ members_for head (UplinkAns answer) = record (success head) {
   phy_payload = option_map hex_data answer.phy_payload;
   session_key_id = option_map session_data answer.session_key_id;
 }
+members_for head (XmitDataAns answer) = record (success head) { phy_payload = option_map hex_data answer.phy_payload }
 
 -- without a readable head there are a type and a result alone
 abbrev pub headless : AnswerMembers

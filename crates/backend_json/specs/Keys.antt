@@ -13,7 +13,8 @@ use Rattle.backend_json.specs.declared.answer.HomeNsAnswer.{HomeNsAnswer}
 use Rattle.backend_json.specs.declared.answer.JoinAnswer.{JoinAnswer}
 use Rattle.backend_json.specs.declared.answer.KeyEnvelope.{KeyEnvelope}
 use Rattle.backend_json.specs.declared.answer.UplinkAnswer.{UplinkAnswer}
-use Rattle.backend_json.specs.declared.answer.Outcome.TheVariants.{Refused, JoinAns, RejoinAns, AppSKeyAns, HomeNSAns, UplinkAns}
+use Rattle.backend_json.specs.declared.answer.XmitDataAnswer.{XmitDataAnswer}
+use Rattle.backend_json.specs.declared.answer.Outcome.TheVariants.{Refused, JoinAns, RejoinAns, AppSKeyAns, HomeNSAns, UplinkAns, XmitDataAns}
 use Rattle.backend_json.specs.Answers.{answer_members, named}
 use Rattle.backend_json.specs.Objects.{Field}
 
@@ -55,7 +56,7 @@ members_of_keys keys =
     ++ (key_if (codes "NwkSEncKey") keys.nwk_s_enc_key
     ++ key_if (codes "SNwkSIntKey") keys.s_nwk_s_int_key))
 
--- the keys that are written are those of the answer, each under its own name; a refusal and the answers to a home look-up and to a gateway have none
+-- the keys that are written are those of the answer, each under its own name; a refusal and the answers to a home look-up, to a gateway and to a downlink have none
 pub record KeysAreWritten : Type 0 where
   pub headless : key_members Headless ≡ []
   pub refused : (head : Head) (cause : Refusal) → key_members (Headed head (Refused cause)) ≡ []
@@ -64,3 +65,4 @@ pub record KeysAreWritten : Type 0 where
   pub app_s_key : (head : Head) (answer : AppSKeyAnswer) → key_members (Headed head (AppSKeyAns answer)) ≡ key_if (codes "AppSKey") answer.app_s_key
   pub home_ns : (head : Head) (answer : HomeNsAnswer) → key_members (Headed head (HomeNSAns answer)) ≡ []
   pub uplink : (head : Head) (answer : UplinkAnswer) → key_members (Headed head (UplinkAns answer)) ≡ []
+  pub xmit_data : (head : Head) (answer : XmitDataAnswer) → key_members (Headed head (XmitDataAns answer)) ≡ []

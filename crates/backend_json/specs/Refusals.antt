@@ -3,7 +3,7 @@ use Rattle.std.specs.Prelude.{ℕ, List, [], ◌++◌, Option, Some, None, codes
 use Rattle.backend_json.specs.declared.refusal.Refusal.{Refusal}
 use Rattle.backend_json.specs.declared.refusal.Refusal.TheVariants as refusal
 use Rattle.backend_json.specs.declared.refusal.ResultCode.{ResultCode}
-use Rattle.backend_json.specs.declared.refusal.ResultCode.TheVariants.{Success, MalformedRequest, InvalidProtocolVersion, UnknownSender, UnknownReceiver, Deferred, FrameSizeError, UnknownDevEui, UnknownDevAddr, ActivationDisallowed, JoinReqFailed, MicFailed, Other}
+use Rattle.backend_json.specs.declared.refusal.ResultCode.TheVariants.{Success, MalformedRequest, InvalidProtocolVersion, UnknownSender, UnknownReceiver, Deferred, FrameSizeError, UnknownDevEui, UnknownDevAddr, ActivationDisallowed, JoinReqFailed, MicFailed, InvalidFPort, XmitFailed, Other}
 
 abbrev pub code_text : ResultCode → List ℕ
 code_text Success = codes "Success"
@@ -18,6 +18,8 @@ code_text UnknownDevAddr = codes "UnknownDevAddr"
 code_text ActivationDisallowed = codes "ActivationDisallowed"
 code_text JoinReqFailed = codes "JoinReqFailed"
 code_text MicFailed = codes "MICFailed"
+code_text InvalidFPort = codes "InvalidFPort"
+code_text XmitFailed = codes "XmitFailed"
 code_text Other = codes "Other"
 
 -- the words of the Description begin it; what a peer said may complete it
@@ -52,6 +54,10 @@ row_of refusal.Mic = row 19 MicFailed (codes "mic")
 row_of refusal.Counter = row 20 JoinReqFailed (codes "counter")
 row_of refusal.Spent = row 21 JoinReqFailed (codes "spent")
 row_of refusal.AddressesSpent = row 22 Other (codes "addresses spent")
+row_of refusal.Port = row 23 InvalidFPort (codes "port")
+row_of refusal.XmitSession = row 24 XmitFailed (codes "session")
+row_of refusal.XmitCounter = row 25 XmitFailed (codes "counter")
+row_of refusal.QueueFull = row 26 XmitFailed (codes "queue full")
 row_of refusal.Session = row 27 Other (codes "session")
 row_of refusal.PeerLate = peer_row Other (codes "peer late")
 row_of refusal.PeerFailed = peer_row Other (codes "peer failed")

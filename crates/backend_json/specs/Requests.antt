@@ -1,7 +1,7 @@
 -- The messages that are read, their members in the order in which they are looked at (TS002, Messages and Payloads).
-use Rattle.std.specs.Prelude.{◌^◌, ℕ, List, Option, Some, None, Result, Ok}
+use Rattle.std.specs.Prelude.{◌^◌, ℕ, List, Bool, false, Option, Some, None, is_some, unwrap_or, if◌then◌else◌, Result, Ok}
 use Rattle.serde_json.specs.Data.{Data}
-use Rattle.serde_json.specs.Find.{as_str}
+use Rattle.serde_json.specs.Find.{as_bool, as_str}
 use Rattle.wire_ids.specs.declared.radio.Radio.{Radio}
 use Rattle.backend_json.specs.declared.head.Head.{Head}
 use Rattle.backend_json.specs.declared.member.Key.{Key}
@@ -12,10 +12,12 @@ use Rattle.backend_json.specs.declared.request.JoinRequest.{JoinRequest}
 use Rattle.backend_json.specs.declared.request.AppSKeyRequest.{AppSKeyRequest}
 use Rattle.backend_json.specs.declared.request.HomeNsRequest.{HomeNsRequest}
 use Rattle.backend_json.specs.declared.request.UplinkRequest.{UplinkRequest}
+use Rattle.backend_json.specs.declared.request.XmitDataRequest.{XmitDataRequest}
+use Rattle.backend_json.specs.declared.request.XmitUplinkRequest.{XmitUplinkRequest}
 use Rattle.backend_json.specs.declared.request.Request.{Request}
-use Rattle.backend_json.specs.declared.request.Request.TheVariants.{JoinReq, RejoinReq, AppSKeyReq, HomeNSReq, UplinkReq, Unknown}
+use Rattle.backend_json.specs.declared.request.Request.TheVariants.{JoinReq, RejoinReq, AppSKeyReq, HomeNSReq, UplinkReq, XmitDataReq, XmitUplink, Unknown}
 use Rattle.backend_json.specs.Forms.{byte_form, bytes_form, cf_list_form, dev_addr_form, eui_form, peer_form, sender_form, session_form, type_form, whole_form}
-use Rattle.backend_json.specs.Members.{◌>>=◌, needed, optional}
+use Rattle.backend_json.specs.Members.{◌>>=◌, found_at, needed, optional, place_of}
 
 -- the common members
 unfoldable pub head_in : Data → Result Head Key
@@ -67,6 +69,30 @@ uplink_req_in d = do
   data_rate ← needed (whole_form 8) member.DataRate d
   Ok (record { phy_payload = phy_payload; data_rate = data_rate })
 
+-- an application's downlink; Confirmed is false where it is missing
+unfoldable pub xmit_data_req_in : Data → Result XmitDataRequest Key
+xmit_data_req_in d = do
+  frm_payload ← needed bytes_form member.FrmPayload d
+  session_key_id ← needed session_form member.SessionKeyId d
+  dev_eui ← needed eui_form member.DownlinkDevEui d
+  f_port ← needed (whole_form 256) member.FPort d
+  f_cnt_down ← needed (whole_form (2 ^ 32)) member.FCntDown d
+  confirmed ← optional as_bool member.Confirmed d
+  Ok (record { frm_payload = frm_payload; session_key_id = session_key_id; dev_eui = dev_eui; f_port = f_port; f_cnt_down = f_cnt_down; confirmed = unwrap_or confirmed false })
+
+-- an uplink that a network passes on
+unfoldable pub xmit_uplink_in : Data → Result XmitUplinkRequest Key
+xmit_uplink_in d = do
+  phy_payload ← needed bytes_form member.PhyPayload d
+  data_rate ← needed (whole_form 8) member.UplinkDataRate d
+  Ok (record { phy_payload = phy_payload; data_rate = data_rate })
+
+-- an XmitDataReq is an uplink where it has the name PHYPayload, whatever its value, and else a downlink
+unfoldable pub xmit_in : Data → Result Request Key
+xmit_in d =
+    if is_some (found_at (place_of member.PhyPayload) d) then (xmit_uplink_in d >>= λ request. Ok (XmitUplink request))
+    else (xmit_data_req_in d >>= λ request. Ok (XmitDataReq request))
+
 -- of a type that isn't served the common members alone are read
 unfoldable pub request_in : MessageType → Data → Result Request Key
 request_in kind.JoinReq d = join_req_in d >>= λ request. Ok (JoinReq request)
@@ -74,4 +100,5 @@ request_in kind.RejoinReq d = join_req_in d >>= λ request. Ok (RejoinReq reques
 request_in kind.AppSKeyReq d = app_s_key_req_in d >>= λ request. Ok (AppSKeyReq request)
 request_in kind.HomeNSReq d = home_ns_req_in d >>= λ request. Ok (HomeNSReq request)
 request_in kind.UplinkReq d = uplink_req_in d >>= λ request. Ok (UplinkReq request)
+request_in kind.XmitDataReq d = xmit_in d
 request_in kind.Unknown d = Ok Unknown

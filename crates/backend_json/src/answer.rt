@@ -20,6 +20,7 @@ pub enum Outcome<'a> {
     AppSKeyAns(AppSKeyAnswer<'a>),
     HomeNSAns(HomeNsAnswer),
     UplinkAns(UplinkAnswer),
+    XmitDataAns(XmitDataAnswer),
 }
 
 /// The label of a KEK, as it stands in the tables. Contracts see its bytes.
@@ -105,4 +106,12 @@ pub struct UplinkAnswer {
     pub phy_payload: Option<Text>,
     /// SessionKeyID, where the session began with a join- or rejoin-request to this desk.
     pub session_key_id: Option<SessionKeyId>,
+}
+
+/// The members of an XmitDataAns of Success.
+#[derive(Drop)]
+pub struct XmitDataAnswer {
+    /// PHYPayload: the downlink to an uplink that was passed on, where there is one. An
+    /// application, whose downlink waits for an uplink, is given none.
+    pub phy_payload: Option<Text>,
 }

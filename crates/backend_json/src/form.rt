@@ -3,7 +3,7 @@
 ghost use Rattle.std.specs.Prelude.{◌≡◌, ◌<◌, ◌^◌, IfOk, IfSome, Option, option_map};
 ghost use Rattle.wire_ids.specs.Digits.{read_eui, read_net};
 ghost use Rattle.serde_json.specs.Data.{Data};
-ghost use Rattle.serde_json.specs.Find.{as_str};
+ghost use Rattle.serde_json.specs.Find.{as_bool, as_str};
 ghost use Rattle.serde_json.specs.View.{view};
 ghost use Rattle.backend_json.specs.Forms.{bytes_form, bytes_of, byte_form, cf_list_form};
 ghost use Rattle.backend_json.specs.Forms.{cf_list_of, dev_addr_form, digits_in, eui_form};
@@ -41,6 +41,15 @@ impl Form for Text {
     }
 }
 
+/// True or false.
+impl Form for bool {
+    ghost form = { as_bool };
+
+    fn read(_: Global, value: &Value) -> Result<Option<bool>, Memory> {
+        Ok(value.as_bool())
+    }
+}
+
 // ---- numbers
 
 #[tactic(auto, unfolding(crate::specs::Forms::whole_form))]
@@ -61,6 +70,18 @@ impl Form for u32 {
     fn read(_: Global, value: &Value) -> Result<Option<u32>, Memory> {
         Ok(match whole(value, 1 << 32) {
             Some(found) => Some(found as u32),
+            None => None,
+        })
+    }
+}
+
+/// A whole number below 256.
+impl Form for u8 {
+    ghost form = { whole_form 256 };
+
+    fn read(_: Global, value: &Value) -> Result<Option<u8>, Memory> {
+        Ok(match whole(value, 256) {
+            Some(found) => Some(found as u8),
             None => None,
         })
     }

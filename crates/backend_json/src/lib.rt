@@ -19,12 +19,15 @@ mod writing;
 
 pub use answer::{
     Answer, AnswerKeys, AppSKeyAnswer, HomeNsAnswer, JoinAnswer, KekLabel, KeyEnvelope, Outcome,
-    UplinkAnswer,
+    UplinkAnswer, XmitDataAnswer,
 };
 pub use head::Head;
 pub use members::answer_text;
 pub use message::{Bad, Message, read_message};
 pub use message_type::{MessageType, ReceiverKind, SenderKind};
 pub use refusal::{Refusal, ResultCode};
-pub use request::{AppSKeyRequest, HomeNsRequest, JoinRequest, Request, UplinkRequest};
+pub use request::{
+    AppSKeyRequest, HomeNsRequest, JoinRequest, Request, UplinkRequest, XmitDataRequest,
+    XmitUplinkRequest,
+};
 pub use session::SessionKeyId;

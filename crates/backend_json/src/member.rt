@@ -1,8 +1,10 @@
 //! The members of an object that is read.
 
-ghost use Rattle.std.specs.Prelude.{◌≡◌};
+ghost use Rattle.std.specs.Prelude.{◌≡◌, option_and_then, option_map};
+ghost use Rattle.serde_json.specs.Find.{get};
 ghost use Rattle.serde_json.specs.View.{view};
-ghost use Rattle.backend_json.specs.Members.{GivesMember, name_of, needed, optional, path_of};
+ghost use Rattle.backend_json.specs.Members.{GivesMember, found_at, needed, optional};
+ghost use Rattle.backend_json.specs.Members.{path_of, place_of};
 ghost use Rattle.backend_json.specs.declared.member.Gap.TheVariants.{Memory as no_memory};
 
 use crate::form::Form;
@@ -27,6 +29,12 @@ pub(crate) enum Key {
     CfList,
     SessionKeyId,
     DataRate,
+    UplinkDataRate,
+    FrmPayload,
+    DownlinkDevEui,
+    FPort,
+    FCntDown,
+    Confirmed,
 }
 
 impl Key {
@@ -50,15 +58,37 @@ impl Key {
             Key::CfList => "CFList",
             Key::SessionKeyId => "SessionKeyID",
             Key::DataRate => "DataRate",
+            Key::UplinkDataRate => "ULMetaData.DataRate",
+            Key::FrmPayload => "FRMPayload",
+            Key::DownlinkDevEui => "DLMetaData.DevEUI",
+            Key::FPort => "DLMetaData.FPort",
+            Key::FCntDown => "DLMetaData.FCntDown",
+            Key::Confirmed => "DLMetaData.Confirmed",
         }
     }
 
-    // Its name in its object, which is the path where that is the message itself.
-    fn name(self) -> &'static str
-        ensures { result.now ≡ name_of self }
+    /// What stands there in a message.
+    #[tactic(auto, unfolding(crate::specs::Members::place_of))]
+    pub(crate) fn find(self, message: &Value) -> Option<&Value>
+        ensures { option_map (λ v. view v.now) result ≡ found_at (place_of self) (view message.now) }
     {
-        self.path()
+        match self {
+            Key::UplinkDataRate => inside(message, "ULMetaData", "DataRate"),
+            Key::DownlinkDevEui => inside(message, "DLMetaData", "DevEUI"),
+            Key::FPort => inside(message, "DLMetaData", "FPort"),
+            Key::FCntDown => inside(message, "DLMetaData", "FCntDown"),
+            Key::Confirmed => inside(message, "DLMetaData", "Confirmed"),
+            _ => message.get(self.path()),
+        }
     }
+}
+
+// What stands under a name in an object of a message.
+fn inside<'a>(message: &'a Value, object: &str, name: &str) -> Option<&'a Value>
+    ensures { option_map (λ v. view v.now) result
+        ≡ option_and_then (get name.now) (get object.now (view message.now)) }
+{
+    message.get(object)?.get(name)
 }
 
 /// Why a member isn't given.
@@ -78,10 +108,10 @@ impl From<Memory> for Gap {
 }
 
 /// A member that must stand there.
-pub(crate) fn needed<T: Form>(alloc: Global, object: &Value, key: Key) -> Result<T, Gap>
-    ensures { GivesMember result (needed T.form key (view object.now)) }
+pub(crate) fn needed<T: Form>(alloc: Global, message: &Value, key: Key) -> Result<T, Gap>
+    ensures { GivesMember result (needed T.form key (view message.now)) }
 {
-    let Some(value) = object.get(key.name()) else {
+    let Some(value) = key.find(message) else {
         return Err(Gap::Member(key));
     };
     match T::read(alloc, value) {
@@ -92,10 +122,10 @@ pub(crate) fn needed<T: Form>(alloc: Global, object: &Value, key: Key) -> Result
 }
 
 /// A member that may be missing. It is ill-formed where it stands there in another form, as null.
-pub(crate) fn optional<T: Form>(alloc: Global, object: &Value, key: Key) -> Result<Option<T>, Gap>
-    ensures { GivesMember result (optional T.form key (view object.now)) }
+pub(crate) fn optional<T: Form>(alloc: Global, message: &Value, key: Key) -> Result<Option<T>, Gap>
+    ensures { GivesMember result (optional T.form key (view message.now)) }
 {
-    let Some(value) = object.get(key.name()) else {
+    let Some(value) = key.find(message) else {
         return Ok(None);
     };
     match T::read(alloc, value) {

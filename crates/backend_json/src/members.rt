@@ -3,6 +3,7 @@
 ghost use Rattle.std.specs.Prelude.{◌≡◌, IfOk, map, option_map};
 ghost use Rattle.backend_json.specs.declared.answer.Outcome.TheVariants.{AppSKeyAns, HomeNSAns};
 ghost use Rattle.backend_json.specs.declared.answer.Outcome.TheVariants.{Refused, UplinkAns};
+ghost use Rattle.backend_json.specs.declared.answer.Outcome.TheVariants.{XmitDataAns};
 ghost use Rattle.backend_json.specs.Answers.{answer_members, answer_version, headed, headless};
 ghost use Rattle.backend_json.specs.Answers.{hex_data, join_members, key_data, members_for, named};
 ghost use Rattle.backend_json.specs.Answers.{number_data, of_type, session_data, success, text_of};
@@ -13,7 +14,7 @@ use crate::object::{Member, put_object};
 use crate::value::Value;
 use crate::{
     Answer, AppSKeyAnswer, Head, HomeNsAnswer, JoinAnswer, KeyEnvelope, Outcome, Refusal,
-    ResultCode, SessionKeyId, UplinkAnswer,
+    ResultCode, SessionKeyId, UplinkAnswer, XmitDataAnswer,
 };
 use std::alloc::Global;
 use wire_ids::{Memory, Text};
@@ -216,6 +217,15 @@ fn uplink_members<'a>(head: &'a Head, answer: &'a UplinkAnswer) -> Members<'a>
     }
 }
 
+fn xmit_data_members<'a>(head: &'a Head, answer: &'a XmitDataAnswer) -> Members<'a>
+    ensures { members_now result ≡ members_for head.now (XmitDataAns answer.now) }
+{
+    Members {
+        phy_payload: bytes(&answer.phy_payload),
+        ..success(head)
+    }
+}
+
 fn members_for<'a>(head: &'a Head, outcome: &'a Outcome<'a>) -> Members<'a>
     ensures { members_now result ≡ members_for head.now outcome.now }
 {
@@ -225,6 +235,7 @@ fn members_for<'a>(head: &'a Head, outcome: &'a Outcome<'a>) -> Members<'a>
         Outcome::AppSKeyAns(answer) => app_s_key_members(head, answer),
         Outcome::HomeNSAns(answer) => home_ns_members(head, answer),
         Outcome::UplinkAns(answer) => uplink_members(head, answer),
+        Outcome::XmitDataAns(answer) => xmit_data_members(head, answer),
     }
 }
 

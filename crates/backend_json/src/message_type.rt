@@ -1,6 +1,6 @@
 ghost use Rattle.std.specs.Prelude.{◌≡◌, find, option_copied};
 ghost use Rattle.backend_json.specs.Types.{answer_name, has_name, name_of, receiver_of};
-ghost use Rattle.backend_json.specs.Types.{sender_of, type_named, type_row};
+ghost use Rattle.backend_json.specs.Types.{type_named, type_row};
 
 /// Of which kind the senders of a message are.
 #[derive(Clone, Copy, Debug, PartialEq, Eq)]
@@ -31,17 +31,19 @@ pub enum MessageType {
     AppSKeyReq,
     HomeNSReq,
     UplinkReq,
+    XmitDataReq,
     /// A type that isn't served.
     Unknown,
 }
 
 // The types that are served.
-const SERVED: [MessageType; 5] = [
+const SERVED: [MessageType; 6] = [
     MessageType::JoinReq,
     MessageType::RejoinReq,
     MessageType::AppSKeyReq,
     MessageType::HomeNSReq,
     MessageType::UplinkReq,
+    MessageType::XmitDataReq,
 ];
 
 // Of these types the first of this name.
@@ -52,23 +54,22 @@ fn among<'a>(types: &'a [MessageType], name: &[u8]) -> Option<&'a MessageType>
 }
 
 impl MessageType {
-    // The table of the types: name, the answer's name, and the kinds of sender and receiver.
+    // The table of the types: name, the answer's name, and the kind of receiver.
     #[tactic(auto, unfolding(crate::specs::Types::type_row))]
-    fn row(self) -> (&'static str, &'static str, SenderKind, ReceiverKind)
+    fn row(self) -> (&'static str, &'static str, ReceiverKind)
         ensures name { result.0.now ≡ (type_row self).name }
         ensures answer { result.1.now ≡ (type_row self).answer }
-        ensures sender { result.2 ≡ (type_row self).sender }
-        ensures receiver { result.3 ≡ (type_row self).receiver }
+        ensures receiver { result.2 ≡ (type_row self).receiver }
     {
         use ReceiverKind::{Any, JoinServer, NetworkServer};
-        use SenderKind::{Application, Gateway, Network, Nobody};
         match self {
-            MessageType::JoinReq => ("JoinReq", "JoinAns", Network, JoinServer),
-            MessageType::RejoinReq => ("RejoinReq", "RejoinAns", Network, JoinServer),
-            MessageType::AppSKeyReq => ("AppSKeyReq", "AppSKeyAns", Application, JoinServer),
-            MessageType::HomeNSReq => ("HomeNSReq", "HomeNSAns", Network, JoinServer),
-            MessageType::UplinkReq => ("UplinkReq", "UplinkAns", Gateway, NetworkServer),
-            MessageType::Unknown => ("", "ErrorNotif", Nobody, Any),
+            MessageType::JoinReq => ("JoinReq", "JoinAns", JoinServer),
+            MessageType::RejoinReq => ("RejoinReq", "RejoinAns", JoinServer),
+            MessageType::AppSKeyReq => ("AppSKeyReq", "AppSKeyAns", JoinServer),
+            MessageType::HomeNSReq => ("HomeNSReq", "HomeNSAns", JoinServer),
+            MessageType::UplinkReq => ("UplinkReq", "UplinkAns", NetworkServer),
+            MessageType::XmitDataReq => ("XmitDataReq", "XmitDataAns", NetworkServer),
+            MessageType::Unknown => ("", "ErrorNotif", Any),
         }
     }
 
@@ -97,17 +98,10 @@ impl MessageType {
         self.row().1
     }
 
-    /// Of which kind its senders are.
-    pub fn sender(self) -> SenderKind
-        ensures { result ≡ sender_of self }
-    {
-        self.row().2
-    }
-
     /// By which of its names it reaches the desk.
     pub fn receiver(self) -> ReceiverKind
         ensures { result ≡ receiver_of self }
     {
-        self.row().3
+        self.row().2
     }
 }

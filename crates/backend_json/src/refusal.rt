@@ -19,6 +19,8 @@ pub enum ResultCode {
     ActivationDisallowed,
     JoinReqFailed,
     MicFailed,
+    InvalidFPort,
+    XmitFailed,
     Other,
 }
 
@@ -40,6 +42,8 @@ impl ResultCode {
             ResultCode::ActivationDisallowed => "ActivationDisallowed",
             ResultCode::JoinReqFailed => "JoinReqFailed",
             ResultCode::MicFailed => "MICFailed",
+            ResultCode::InvalidFPort => "InvalidFPort",
+            ResultCode::XmitFailed => "XmitFailed",
             ResultCode::Other => "Other",
         }
     }
@@ -61,7 +65,7 @@ pub enum Refusal {
     Type,
     /// An ask that isn't answered yet has the very body.
     Asked,
-    /// PHYPayload has a length that no such frame has.
+    /// PHYPayload has a length that no such frame has, or FRMPayload more bytes than a frame takes.
     Size,
     /// PHYPayload isn't a frame of the message's kind, or another member doesn't go with it.
     Frame,
@@ -83,6 +87,14 @@ pub enum Refusal {
     Spent,
     /// The network has no further address for the device.
     AddressesSpent,
+    /// An application has no such FPort.
+    Port,
+    /// The device has no active context with this SessionKeyID.
+    XmitSession,
+    /// FCntDown is below the next one.
+    XmitCounter,
+    /// As many downlinks wait for the device as may.
+    QueueFull,
     /// No session has this SessionKeyID.
     Session,
     /// The ask isn't open any more.
@@ -121,6 +133,10 @@ impl Refusal {
             Refusal::Counter => (Some(20), ResultCode::JoinReqFailed, "counter"),
             Refusal::Spent => (Some(21), ResultCode::JoinReqFailed, "spent"),
             Refusal::AddressesSpent => (Some(22), ResultCode::Other, "addresses spent"),
+            Refusal::Port => (Some(23), ResultCode::InvalidFPort, "port"),
+            Refusal::XmitSession => (Some(24), ResultCode::XmitFailed, "session"),
+            Refusal::XmitCounter => (Some(25), ResultCode::XmitFailed, "counter"),
+            Refusal::QueueFull => (Some(26), ResultCode::XmitFailed, "queue full"),
             Refusal::Session => (Some(27), ResultCode::Other, "session"),
             Refusal::PeerLate => (None, ResultCode::Other, "peer late"),
             Refusal::PeerFailed => (None, ResultCode::Other, "peer failed"),

@@ -18,7 +18,7 @@ use Rattle.backend_json.specs.declared.refusal.Refusal.TheVariants as cause
 use Rattle.backend_json.specs.declared.request.AppSKeyRequest.{AppSKeyRequest}
 use Rattle.backend_json.specs.declared.request.JoinRequest.{JoinRequest}
 use Rattle.backend_json.specs.declared.request.Request.{Request}
-use Rattle.backend_json.specs.declared.request.Request.TheVariants.{AppSKeyReq, HomeNSReq, JoinReq, RejoinReq, Unknown, UplinkReq}
+use Rattle.backend_json.specs.declared.request.Request.TheVariants.{AppSKeyReq, HomeNSReq, JoinReq, RejoinReq, Unknown, UplinkReq, XmitDataReq, XmitUplink}
 use Rattle.entry_codec.specs.Machine.{Machine}
 use Rattle.entry_codec.specs.declared.device.Device.{Device}
 use Rattle.entry_codec.specs.declared.device.KeptSeed.{KeptSeed}
@@ -182,6 +182,8 @@ module _ (c : Config) (nwk app app' : ℕ → List ℕ) (m : Machine) (head : He
   request_case (AppSKeyReq request) e = app_s_key_case request e
   request_case (HomeNSReq request) e = home_ns_case (found_of c m request.dev_eui)
   request_case (UplinkReq request) e = holds.refusal cause.«Type»
+  request_case (XmitDataReq request) e = holds.refusal cause.«Type»
+  request_case (XmitUplink request) e = holds.refusal cause.«Type»
   request_case Unknown e = holds.refusal cause.«Type»
 
   pub by_cases : (request : Request) → R (js_decided c nwk app m head request) (js_decided c nwk app' m head request)

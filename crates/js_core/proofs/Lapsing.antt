@@ -9,7 +9,7 @@ use Rattle.backend_json.specs.declared.head.Head.{Head}
 use Rattle.backend_json.specs.declared.request.AppSKeyRequest.{AppSKeyRequest}
 use Rattle.backend_json.specs.declared.request.JoinRequest.{JoinRequest}
 use Rattle.backend_json.specs.declared.request.Request.{Request}
-use Rattle.backend_json.specs.declared.request.Request.TheVariants.{AppSKeyReq, HomeNSReq, JoinReq, RejoinReq, Unknown, UplinkReq}
+use Rattle.backend_json.specs.declared.request.Request.TheVariants.{AppSKeyReq, HomeNSReq, JoinReq, RejoinReq, Unknown, UplinkReq, XmitDataReq, XmitUplink}
 use Rattle.entry_codec.specs.Devices.{lapsed}
 use Rattle.entry_codec.specs.Machine.{Machine, lapse}
 use Rattle.entry_codec.specs.declared.device.Device.{Device}
@@ -80,4 +80,6 @@ module _ (c : Config) (nwk app : ℕ → List ℕ) (at : ℕ) (head : Head) wher
   lapse_unread m (AppSKeyReq request) = ap (app_s_key_at request) (of_lapsed c m at request.dev_eui) ∙ app_s_key_lapsed request _
   lapse_unread m (HomeNSReq request) = ap home_ns_at (of_lapsed c m at request.dev_eui) ∙ home_ns_lapsed _
   lapse_unread m (UplinkReq request) = refl
+  lapse_unread m (XmitDataReq request) = refl
+  lapse_unread m (XmitUplink request) = refl
   lapse_unread m Unknown = refl

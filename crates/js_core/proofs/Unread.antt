@@ -11,7 +11,7 @@ use Rattle.backend_json.specs.declared.head.Head.{Head}
 use Rattle.backend_json.specs.declared.request.AppSKeyRequest.{AppSKeyRequest}
 use Rattle.backend_json.specs.declared.request.JoinRequest.{JoinRequest}
 use Rattle.backend_json.specs.declared.request.Request.{Request}
-use Rattle.backend_json.specs.declared.request.Request.TheVariants.{AppSKeyReq, HomeNSReq, JoinReq, RejoinReq, Unknown, UplinkReq}
+use Rattle.backend_json.specs.declared.request.Request.TheVariants.{AppSKeyReq, HomeNSReq, JoinReq, RejoinReq, Unknown, UplinkReq, XmitDataReq, XmitUplink}
 use Rattle.entry_codec.specs.Machine.{Machine}
 use Rattle.entry_codec.specs.declared.device.Device.{Device}
 use Rattle.entry_codec.specs.declared.device.KeptSeed.{KeptSeed}
@@ -107,6 +107,8 @@ module _ (c : Config) (nwk app : ℕ → List ℕ) (head : Head) where
   decided_bare m (AppSKeyReq request) = ap (app_s_key_at (bare c) request) (of_bare c m request.dev_eui) ∙ app_s_key_bare request _
   decided_bare m (HomeNSReq request) = ap home_ns_at (of_bare c m request.dev_eui) ∙ home_ns_bare _
   decided_bare m (UplinkReq request) = refl
+  decided_bare m (XmitDataReq request) = refl
+  decided_bare m (XmitUplink request) = refl
   decided_bare m Unknown = refl
 
 -- two tables that are the same but for AppKeys

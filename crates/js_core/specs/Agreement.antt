@@ -16,7 +16,7 @@ use Rattle.backend_json.specs.Keys.{KeyMember, key_member, key_members}
 use Rattle.backend_json.specs.declared.answer.Answer.{Answer}
 use Rattle.backend_json.specs.declared.answer.Answer.TheVariants.{Headed, Headless}
 use Rattle.backend_json.specs.declared.answer.Outcome.{Outcome}
-use Rattle.backend_json.specs.declared.answer.Outcome.TheVariants.{AppSKeyAns, HomeNSAns, JoinAns, Refused, RejoinAns, UplinkAns}
+use Rattle.backend_json.specs.declared.answer.Outcome.TheVariants.{AppSKeyAns, HomeNSAns, JoinAns, Refused, RejoinAns, UplinkAns, XmitDataAns}
 use Rattle.backend_json.specs.declared.head.Head.{Head}
 use Rattle.backend_json.specs.declared.request.Request.{Request}
 use Rattle.backend_json.specs.declared.session.SessionKeyId.{SessionKeyId}
@@ -116,6 +116,7 @@ AnswerAgrees c keys m now (Headed head (AppSKeyAns members)) =
     KeysAgree c keys m now answer.AppSKeyAns 0 head (AppSKeyAns members) members.session_key_id × (members.session_key_id.dev_eui ≡ members.dev_eui)
 AnswerAgrees c keys m now (Headed head (HomeNSAns members)) = HasNoKeys (Headed head (HomeNSAns members))
 AnswerAgrees c keys m now (Headed head (UplinkAns members)) = HasNoKeys (Headed head (UplinkAns members))
+AnswerAgrees c keys m now (Headed head (XmitDataAns members)) = HasNoKeys (Headed head (XmitDataAns members))
 
 -- an answer agrees in the state that its change leaves
 abbrev pub Agrees : Config → List RootKeys → Machine → ℕ → Sender → JsDecision → Type 0

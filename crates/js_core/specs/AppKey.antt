@@ -15,7 +15,7 @@ use Rattle.backend_json.specs.declared.answer.AnswerKeys.{AnswerKeys}
 use Rattle.backend_json.specs.declared.answer.JoinAnswer.{JoinAnswer}
 use Rattle.backend_json.specs.declared.answer.KeyEnvelope.{KeyEnvelope}
 use Rattle.backend_json.specs.declared.answer.Outcome.{Outcome}
-use Rattle.backend_json.specs.declared.answer.Outcome.TheVariants.{AppSKeyAns, HomeNSAns, JoinAns, Refused, RejoinAns, UplinkAns}
+use Rattle.backend_json.specs.declared.answer.Outcome.TheVariants.{AppSKeyAns, HomeNSAns, JoinAns, Refused, RejoinAns, UplinkAns, XmitDataAns}
 use Rattle.backend_json.specs.declared.head.Head.{Head}
 use Rattle.backend_json.specs.declared.request.Request.{Request}
 use Rattle.entitlement.specs.Keys.{Entry}
@@ -42,6 +42,7 @@ device_told (RejoinAns members) = Some members.session_key_id.dev_eui
 device_told (AppSKeyAns members) = Some members.dev_eui
 device_told (HomeNSAns members) = None
 device_told (UplinkAns members) = None
+device_told (XmitDataAns members) = None
 
 abbrev pub tells_of : Outcome → DeviceRow → Bool
 tells_of outcome row = holds_of (λ (dev : Eui). row.dev_eui.0 == dev.0) (device_told outcome)
@@ -54,6 +55,7 @@ entitled_by (RejoinAns members) row receiver = entries_for row receiver answer.R
 entitled_by (AppSKeyAns members) row receiver = entries_for row receiver answer.AppSKeyAns 0
 entitled_by (HomeNSAns members) row receiver = []
 entitled_by (UplinkAns members) row receiver = []
+entitled_by (XmitDataAns members) row receiver = []
 
 abbrev pub gives_app_s_key : Head → Outcome → DeviceRow → Bool
 gives_app_s_key head outcome row = tells_of outcome row && list_any is_app_s_key (entitled_by outcome row head.sender)
@@ -81,6 +83,7 @@ outcome_without (RejoinAns members) = RejoinAns (members_without members)
 outcome_without (AppSKeyAns members) = AppSKeyAns (record members { app_s_key = option_map without_key members.app_s_key })
 outcome_without (HomeNSAns members) = HomeNSAns members
 outcome_without (UplinkAns members) = UplinkAns members
+outcome_without (XmitDataAns members) = XmitDataAns members
 
 abbrev pub without_aes_key : Answer → Answer
 without_aes_key Headless = Headless

@@ -31,7 +31,7 @@ use Rattle.backend_json.specs.declared.refusal.Refusal.TheVariants as cause
 use Rattle.backend_json.specs.declared.request.AppSKeyRequest.{AppSKeyRequest}
 use Rattle.backend_json.specs.declared.request.JoinRequest.{JoinRequest}
 use Rattle.backend_json.specs.declared.request.Request.{Request}
-use Rattle.backend_json.specs.declared.request.Request.TheVariants.{AppSKeyReq, HomeNSReq, JoinReq, RejoinReq, Unknown, UplinkReq}
+use Rattle.backend_json.specs.declared.request.Request.TheVariants.{AppSKeyReq, HomeNSReq, JoinReq, RejoinReq, Unknown, UplinkReq, XmitDataReq, XmitUplink}
 use Rattle.entitlement.specs.declared.roles.AnswerKind.{AnswerKind}
 use Rattle.entitlement.specs.declared.roles.AnswerKind.TheVariants as answer
 use Rattle.entitlement.specs.declared.roles.Facts.{Facts}
@@ -210,6 +210,8 @@ success_of c nwk app m head (RejoinReq request) = join_success c nwk app m by.Re
 success_of c nwk app m head (AppSKeyReq request) = app_s_key_success_at c app head request (found_of c m request.dev_eui)
 success_of c nwk app m head (HomeNSReq request) = home_ns_success_at head (found_of c m request.dev_eui)
 success_of c nwk app m head (UplinkReq request) = refuses head cause.«Type»
+success_of c nwk app m head (XmitDataReq request) = refuses head cause.«Type»
+success_of c nwk app m head (XmitUplink request) = refuses head cause.«Type»
 success_of c nwk app m head Unknown = refuses head cause.«Type»
 
 -- from the rule of the frame's size on

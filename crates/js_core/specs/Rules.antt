@@ -10,7 +10,7 @@ use Rattle.backend_json.specs.declared.head.Head.{Head}
 use Rattle.backend_json.specs.declared.request.JoinRequest.{JoinRequest}
 use Rattle.backend_json.specs.declared.request.AppSKeyRequest.{AppSKeyRequest}
 use Rattle.backend_json.specs.declared.request.Request.{Request}
-use Rattle.backend_json.specs.declared.request.Request.TheVariants.{AppSKeyReq, HomeNSReq, JoinReq, RejoinReq, Unknown, UplinkReq}
+use Rattle.backend_json.specs.declared.request.Request.TheVariants.{AppSKeyReq, HomeNSReq, JoinReq, RejoinReq, Unknown, UplinkReq, XmitDataReq, XmitUplink}
 use Rattle.backend_json.specs.declared.refusal.Refusal.{Refusal}
 use Rattle.backend_json.specs.declared.refusal.Refusal.TheVariants.{«Type», Size, Frame, Device, Home, Suspended, Eui, Mic, Counter, Spent, Session}
 use Rattle.entry_codec.specs.Machine.{Machine}
@@ -106,6 +106,8 @@ rules_of c nwk m head (RejoinReq request) = join_rules c nwk m by.Rejoin head re
 rules_of c nwk m head (AppSKeyReq request) = app_s_key_rules_at head request (found_of c m request.dev_eui)
 rules_of c nwk m head (HomeNSReq request) = home_ns_rules_at (found_of c m request.dev_eui)
 rules_of c nwk m head (UplinkReq request) = other_rules
+rules_of c nwk m head (XmitDataReq request) = other_rules
+rules_of c nwk m head (XmitUplink request) = other_rules
 rules_of c nwk m head Unknown = other_rules
 
 -- the first rule that holds is answered, and else the request succeeds
@@ -128,6 +130,8 @@ rule_numbers (RejoinReq request) = 8 ∷ 9 ∷ 10 ∷ 12 ∷ 13 ∷ 18 ∷ 19 �
 rule_numbers (AppSKeyReq request) = 10 ∷ 27 ∷ []
 rule_numbers (HomeNSReq request) = 10 ∷ []
 rule_numbers (UplinkReq request) = 5 ∷ []
+rule_numbers (XmitDataReq request) = 5 ∷ []
+rule_numbers (XmitUplink request) = 5 ∷ []
 rule_numbers Unknown = 5 ∷ []
 
 -- the rules of each message stand in the order of that table

@@ -285,7 +285,9 @@ fn decide<'a, E: BlockFn, D: BlockFn>(
         }
         Request::AppSKeyReq(request) => { app_s_key_decision(tables, vault, state, head, request) }
         Request::HomeNSReq(request) => home_ns_decision(tables, state, head, request),
-        Request::UplinkReq(_) => other_decision(head),
+        Request::UplinkReq(_) | Request::XmitDataReq(_) | Request::XmitUplink(_) => {
+            other_decision(head)
+        }
         Request::Unknown => other_decision(head),
     }
 }

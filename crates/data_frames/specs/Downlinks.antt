@@ -1,5 +1,6 @@
 -- Downlinks that the network writes, and uplinks that a device writes (LoRaWAN 1.1, 4.3 and 4.4).
 use Rattle.std.specs.Prelude.{◌≡◌, ℕ, ◌+◌, ◌-◌, ◌%◌, ◌^◌, Bool, true, false, if◌then◌else◌, List, [], ◌++◌, length, take, drop, Option, Some, None}
+use Rattle.wire_ids.specs.declared.address.DevAddr.{DevAddr}
 use Rattle.wire_ids.specs.declared.keys.SessionKeys.{SessionKeys}
 use Rattle.data_frames.specs.declared.downlink.Down.{Down}
 use Rattle.data_frames.specs.declared.sending.UpParts.{UpParts}

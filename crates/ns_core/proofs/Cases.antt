@@ -1,4 +1,4 @@
--- A request of a gateway comes to a refusal, to a session that begins, to a duplicate's answer, or to an uplink that counts.
+-- A request to a network server comes to a refusal, to a session that begins, to a duplicate's answer, to an uplink that counts, or to a payload that waits.
 use Rattle.std.proofs.Common.{◌≡◌, ℕ, Bool, true, false, cond, not, List, Option, Some, None, refl}
 use Rattle.wire_ids.specs.Rules.{Rule, first_rule}
 use Rattle.wire_ids.proofs.Decisions.{none_holds}
@@ -8,12 +8,13 @@ use Rattle.backend_json.specs.declared.head.Head.{Head}
 use Rattle.backend_json.specs.declared.refusal.Refusal.{Refusal}
 use Rattle.backend_json.specs.declared.refusal.Refusal.TheVariants as cause
 use Rattle.backend_json.specs.declared.request.Request.{Request}
-use Rattle.backend_json.specs.declared.request.Request.TheVariants.{AppSKeyReq, HomeNSReq, JoinReq, RejoinReq, UplinkReq, Unknown}
+use Rattle.backend_json.specs.declared.request.Request.TheVariants.{AppSKeyReq, HomeNSReq, JoinReq, RejoinReq, UplinkReq, Unknown, XmitDataReq, XmitUplink}
 use Rattle.backend_json.specs.declared.request.UplinkRequest.{UplinkRequest}
+use Rattle.backend_json.specs.declared.request.XmitDataRequest.{XmitDataRequest}
 use Rattle.entries.specs.declared.change.OwnContext.{OwnContext}
 use Rattle.entry_codec.specs.Machine.{Machine}
 use Rattle.join_frames.specs.declared.join_up.JoinUp.{JoinUp}
-use Rattle.js_core.specs.Found.{Found}
+use Rattle.js_core.specs.Found.{Found, found_of}
 use Rattle.js_core.specs.Frames.{join_up_of}
 use Rattle.js_core.specs.Home.{sender_found}
 use Rattle.js_core.specs.Replies.{JsDecision, refuses}
@@ -24,6 +25,7 @@ use Rattle.js_core.proofs.Causes.{first_said, none_said}
 use Rattle.ns_core.specs.Frames.{addr_of, is_data}
 use Rattle.ns_core.specs.Heard.{Heard, Join, Data, Neither, heard_by, heard_of}
 use Rattle.ns_core.specs.Own.{own_context}
+use Rattle.ns_core.specs.Payloads.{is_full, low_number, payload_decided, payload_rules_at, payload_success_at, too_large, wrong_device, wrong_session}
 use Rattle.ns_core.specs.Replies.{activated_with, counted_with, duplicate_answer, ns_decided, success_at, uplink_decided, uplink_success}
 use Rattle.ns_core.specs.Rules.{uplink_rules, uplink_rules_at}
 use Rattle.ns_core.specs.Speakers.{Speaker, count_of, is_duplicate, speaker_of}
@@ -45,6 +47,15 @@ pub record IsUplink (c : Config) (nwk : ℕ → List ℕ) (m : Machine) (request
   pub new : is_duplicate request.phy_payload s ≡ false
   pub is_count : count_of nwk request.phy_payload request.data_rate s ≡ Some v
 
+-- a payload that no rule refuses, and its device
+pub record IsPayload (c : Config) (m : Machine) (head : Head) (request : XmitDataRequest) (f : Found) : Type 0 where
+  pub is_found : found_of c m request.dev_eui ≡ Some f
+  pub few : too_large request ≡ false
+  pub device : wrong_device head (Some f) ≡ false
+  pub session : wrong_session request (Some f) ≡ false
+  pub next : low_number request (Some f) ≡ false
+  pub room : is_full (Some f) ≡ false
+
 -- P holds in each case
 pub record HoldsInCases (c : Config) (nwk : ℕ → List ℕ) (m : Machine) (head : Head) (P : JsDecision → Type 0) : Type 0 where
   pub refusal : (why : Refusal) → P (refuses head why)
@@ -52,6 +63,7 @@ pub record HoldsInCases (c : Config) (nwk : ℕ → List ℕ) (m : Machine) (hea
       → P (activated_with nwk head up f (step_of (nwk f.device) request.phy_payload up f.kept) (Some own))
   pub duplicate : (s : Speaker) → (let d : JsDecision = decision.Reply (duplicate_answer head s) in P d)
   pub uplink : (request : UplinkRequest) (s : Speaker) (v : Count) → IsUplink c nwk m request s v → P (counted_with nwk head request s (Some v))
+  pub payload : (request : XmitDataRequest) (f : Found) → IsPayload c m head request f → P (payload_success_at head request (Some f))
 
 not_not : (b : Bool) → not b ≡ false → b ≡ true
 not_not true h = refl
@@ -114,9 +126,24 @@ module _ (c : Config) (nwk : ℕ → List ℕ) (m : Machine) (head : Head) (P : 
   unfolding uplink_decided uplink_rules uplink_success heard_of
   uplink_case request = heard_case request (join_up_of request.phy_payload) refl
 
+  payload_case : (request : XmitDataRequest) (found : Option Found) → found_of c m request.dev_eui ≡ found → P (by_rules (refuses head) (payload_rules_at head request found) (payload_success_at head request found))
+  payload_case request None is_found = by_first (payload_rules_at head request None) _ (first_rule (payload_rules_at head request None)) refl (λ none. holds.refusal cause.Device)
+  payload_case request (Some f) is_found = by_first (payload_rules_at head request (Some f)) _ (first_rule (payload_rules_at head request (Some f))) refl (λ none.
+      let each = none_holds (payload_rules_at head request (Some f)) none in
+      holds.payload request f (record {
+        is_found = is_found;
+        few = each.0;
+        device = each.1.0;
+        session = each.1.1.1.0;
+        next = each.1.1.1.1.0;
+        room = each.1.1.1.1.1.0;
+      }))
+
   pub by_cases : (request : Request) → P (ns_decided c nwk m head request)
-  unfolding ns_decided
+  unfolding ns_decided payload_decided
   by_cases (UplinkReq request) = uplink_case request
+  by_cases (XmitDataReq request) = payload_case request (found_of c m request.dev_eui) refl
+  by_cases (XmitUplink request) = holds.refusal cause.«Type»
   by_cases (JoinReq request) = holds.refusal cause.«Type»
   by_cases (RejoinReq request) = holds.refusal cause.«Type»
   by_cases (AppSKeyReq request) = holds.refusal cause.«Type»

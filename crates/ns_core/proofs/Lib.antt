@@ -1,7 +1,8 @@
 pub mod Least
 pub mod Reading
 pub mod Counting
-mod Downlinks
+pub mod Downlinks
+pub mod Payloads
 mod Lapsing
 mod Rules
 pub mod Cases

@@ -6,4 +6,6 @@ pub mod Downlinks
 pub mod Heard
 pub mod Own
 pub mod Rules
+pub mod Sessions
+pub mod Payloads
 pub mod Replies

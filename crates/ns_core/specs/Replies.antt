@@ -1,7 +1,6 @@
--- What an UplinkReq is answered, and what it changes.
+-- What a request to a network server is answered, and what it changes.
 use Rattle.std.specs.Prelude.{ℕ, List, Option, Some, None, if◌then◌else◌}
 use Rattle.wire_ids.specs.declared.decision.Decision.TheVariants as decision
-use Rattle.wire_ids.specs.declared.eui.Eui.{Eui}
 use Rattle.agreements.specs.Walk.{Config}
 use Rattle.backend_json.specs.declared.answer.Answer.{Answer}
 use Rattle.backend_json.specs.declared.answer.Answer.TheVariants.{Headed}
@@ -10,11 +9,8 @@ use Rattle.backend_json.specs.declared.answer.UplinkAnswer.{UplinkAnswer}
 use Rattle.backend_json.specs.declared.head.Head.{Head}
 use Rattle.backend_json.specs.declared.refusal.Refusal.TheVariants as cause
 use Rattle.backend_json.specs.declared.request.Request.{Request}
-use Rattle.backend_json.specs.declared.request.Request.TheVariants.{AppSKeyReq, HomeNSReq, JoinReq, RejoinReq, UplinkReq, Unknown}
+use Rattle.backend_json.specs.declared.request.Request.TheVariants.{AppSKeyReq, HomeNSReq, JoinReq, RejoinReq, UplinkReq, Unknown, XmitDataReq, XmitUplink}
 use Rattle.backend_json.specs.declared.request.UplinkRequest.{UplinkRequest}
-use Rattle.backend_json.specs.declared.session.SessionKeyId.{SessionKeyId}
-use Rattle.contexts.specs.declared.context.Origin.{Origin}
-use Rattle.contexts.specs.declared.context.Origin.TheVariants.{Given, Seeded}
 use Rattle.entries.specs.declared.change.Change.{Change}
 use Rattle.entries.specs.declared.change.Change.TheVariants as change
 use Rattle.entries.specs.declared.change.OwnContext.{OwnContext}
@@ -29,7 +25,9 @@ use Rattle.js_core.specs.declared.step.JoinStep.{JoinStep}
 use Rattle.ns_core.specs.Downlinks.{down_fields, down_of, text_under}
 use Rattle.ns_core.specs.Heard.{Heard, Join, Data, Neither, heard_of}
 use Rattle.ns_core.specs.Own.{own_context}
+use Rattle.ns_core.specs.Payloads.{payload_decided}
 use Rattle.ns_core.specs.Rules.{uplink_rules}
+use Rattle.ns_core.specs.Sessions.{session_of}
 use Rattle.ns_core.specs.Speakers.{Speaker, count_of, is_duplicate, keys_of}
 use Rattle.ns_core.specs.declared.valid.Count.{Count}
 
@@ -57,11 +55,6 @@ activation_success c nwk m head request up None = refuses head cause.Device
 activation_success c nwk m head request up (Some f) = activated_by c nwk m head up f (step_of (nwk f.device) request.phy_payload up f.kept)
 
 -- ---- data uplinks
-
--- the session, where it began with a join- or rejoin-request to this desk
-abbrev pub session_of : Eui → Origin → Option SessionKeyId
-session_of dev (Seeded seed) = Some (record { dev_eui = dev; join_nonce = seed.nonce })
-session_of dev (Given number keys) = None
 
 -- whoever sent the frame is told the device and the full counter, and is given the downlink where there is one
 abbrev pub heard_members : Speaker → Option ℕ → Option (List ℕ) → UplinkAnswer
@@ -121,9 +114,11 @@ uplink_success c nwk m head request = success_at c nwk m head request (heard_of 
 unfoldable pub uplink_decided : Config → (ℕ → List ℕ) → Machine → Head → UplinkRequest → JsDecision
 uplink_decided c nwk m head request = by_rules (refuses head) (uplink_rules c nwk m request) (uplink_success c nwk m head request)
 
--- a network server's part: from the rule of the frame's size on
+-- a network server's part: from the rule of the size on
 unfoldable pub ns_decided : Config → (ℕ → List ℕ) → Machine → Head → Request → JsDecision
 ns_decided c nwk m head (UplinkReq request) = uplink_decided c nwk m head request
+ns_decided c nwk m head (XmitDataReq request) = payload_decided c m head request
+ns_decided c nwk m head (XmitUplink request) = refuses head cause.«Type»
 ns_decided c nwk m head (JoinReq request) = refuses head cause.«Type»
 ns_decided c nwk m head (RejoinReq request) = refuses head cause.«Type»
 ns_decided c nwk m head (AppSKeyReq request) = refuses head cause.«Type»

@@ -82,11 +82,7 @@ fn ack_of(up: &DataUp<'_>, count: u32) -> Option<u32>
     requires { HasFields up.now.whole.now (data_forms.fields_of up.now) }
     ensures { result ≡ ack_of up.now.whole.now count }
 {
-    if up.confirmed {
-        Some(count)
-    } else {
-        None
-    }
+    if up.confirmed { Some(count) } else { None }
 }
 
 // The fields of a downlink that answers with this ACK; none where there is no downlink.

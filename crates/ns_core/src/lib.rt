@@ -1,4 +1,4 @@
-//! The home network: what it makes of what its gateways hear.
+//! The home network: what it makes of what its gateways hear, and of payloads for its devices.
 #![tactic(auto)]
 
 mod activation;
@@ -7,7 +7,10 @@ mod downlink;
 mod frames;
 pub mod laws;
 mod own;
+mod payload;
+mod session;
 mod speaker;
+mod text;
 mod uplink;
 mod valid;
 

@@ -10,36 +10,24 @@ ghost use Rattle.key_vault.specs.Table.{nwk_at};
 ghost use Rattle.ns_core.specs.Downlinks.{down_of};
 ghost use Rattle.ns_core.specs.Frames.{HasFields};
 ghost use Rattle.ns_core.specs.Heard.{Data};
-ghost use Rattle.ns_core.specs.Replies.{counted_with, heard_answer, session_of, success_at, up_of};
+ghost use Rattle.ns_core.specs.Replies.{counted_with, heard_answer, success_at, up_of};
 ghost use Rattle.ns_core.specs.Rules.{uplink_rules_at};
 ghost use Rattle.ns_core.specs.Speakers.{keys_of, speaker_now, speaker_of};
 
 use crate::downlink::{down_of, down_text};
+use crate::session::session_of;
 use crate::speaker::{Speaking, Valid, is_duplicate, speaker, valid_of};
+use crate::text::short_copy;
 use crate::valid::Count;
 use agreements::Tables;
-use backend_json::{Answer, Head, Outcome, Refusal, SessionKeyId, UplinkAnswer, UplinkRequest};
-use contexts::Origin;
+use backend_json::{Answer, Head, Outcome, Refusal, UplinkAnswer, UplinkRequest};
 use data_frames::DataUp;
 use entries::{Change, Downlink, Uplink};
 use entry_codec::State;
 use js_core::{JsDecision, refused};
 use key_vault::{BlockFn, Vault};
 use std::alloc::Global;
-use wire_ids::{Decision, Eui, Memory, Moment, ShortText, Text};
-
-// The session, where it began with a join- or rejoin-request to this desk.
-fn session_of(dev_eui: Eui, origin: &Origin) -> Option<SessionKeyId>
-    ensures { result ≡ session_of dev_eui origin.now }
-{
-    match origin {
-        Origin::Seeded(seed) => Some(SessionKeyId {
-            dev_eui,
-            join_nonce: seed.nonce,
-        }),
-        Origin::Given { .. } => None,
-    }
-}
+use wire_ids::{Decision, Memory, Moment, Text};
 
 // Whoever sent the frame is told the device and the full counter, and is given the downlink.
 fn heard_answer(
@@ -60,16 +48,6 @@ fn heard_answer(
             phy_payload: down,
             session_key_id,
         }),
-    }
-}
-
-// The frame, as an entry holds it, which is far shorter than what it has room for.
-fn short_copy(alloc: Global, bytes: &[u8]) -> Result<ShortText, Memory>
-    ensures { IfOk result (λ short. short ≡ bytes.now) }
-{
-    match ShortText::of_slice(alloc, bytes)? {
-        Some(short) => Ok(short),
-        None => Err(Memory),
     }
 }
 

@@ -64,6 +64,7 @@ pub record HoldsInCases (c : Config) (nwk : ℕ → List ℕ) (m : Machine) (hea
       → P (activated_with nwk head up f (step_of (nwk f.device) request.phy_payload up f.kept) (Some own))
   pub duplicate : (s : Speaker) → (let d : JsDecision = decision.Reply (duplicate_answer head s) in P d)
   pub uplink : (request : UplinkRequest) (s : Speaker) (v : Count) → IsUplink c nwk m request s v → P (counted_with nwk head request s (Some v))
+
 not_not : (b : Bool) → not b ≡ false → b ≡ true
 not_not true h = refl
 not_not false h = absurd cc

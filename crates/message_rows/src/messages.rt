@@ -1,7 +1,8 @@
 //! What the program doesn't print: which member a fault names, and what a peer says.
 
 use backend_json::{
-    Answer, Bad, Head, Message, MessageType, Outcome, Refusal, answer_text, read_message,
+    Answer, Bad, Head, Message, MessageType, Outcome, Refusal, Request, SenderKind, XmitDataAnswer,
+    answer_text, read_message,
 };
 use std::alloc::Global;
 use std::test::Fail;
@@ -10,7 +11,7 @@ use wire_ids::{Eui, NetId, PeerId, Sender, Text};
 fn is_send<T: Send>() {}
 
 // Bodies, and the first member of each that is missing or ill-formed.
-const LACKING: [(&[u8], &str); 10] = [
+const LACKING: [(&[u8], &str); 19] = [
     (b"{\"SenderID\":\"000014\"}", "ProtocolVersion"),
     (
         b"{\"ProtocolVersion\":\"1.1\",\"SenderID\":\"0014\"}",
@@ -61,7 +62,78 @@ const LACKING: [(&[u8], &str); 10] = [
         \"PHYPayload\":\"400\",\"DataRate\":5.0}",
         "PHYPayload",
     ),
+    (
+        b"{\"ProtocolVersion\":\"1.1\",\"SenderID\":\"a000000000000001\",\
+        \"ReceiverID\":\"000013\",\"TransactionID\":1,\"MessageType\":\"XmitDataReq\",\
+        \"FRMPayload\":\"0\",\"SessionKeyID\":1}",
+        "FRMPayload",
+    ),
+    (
+        b"{\"ProtocolVersion\":\"1.1\",\"SenderID\":\"a000000000000001\",\
+        \"ReceiverID\":\"000013\",\"TransactionID\":1,\"MessageType\":\"XmitDataReq\",\
+        \"FRMPayload\":\"\",\"SessionKeyID\":\"00000000000000010000\"}",
+        "SessionKeyID",
+    ),
+    (
+        b"{\"ProtocolVersion\":\"1.1\",\"SenderID\":\"a000000000000001\",\
+        \"ReceiverID\":\"000013\",\"TransactionID\":1,\"MessageType\":\"XmitDataReq\",\
+        \"FRMPayload\":\"\",\"SessionKeyID\":\"0000000000000001000001\"}",
+        "DLMetaData.DevEUI",
+    ),
+    (
+        b"{\"ProtocolVersion\":\"1.1\",\"SenderID\":\"a000000000000001\",\
+        \"ReceiverID\":\"000013\",\"TransactionID\":1,\"MessageType\":\"XmitDataReq\",\
+        \"FRMPayload\":\"\",\"SessionKeyID\":\"0000000000000001000001\",\
+        \"DLMetaData\":\"0000000000000001\",\"DevEUI\":\"0000000000000001\"}",
+        "DLMetaData.DevEUI",
+    ),
+    (
+        b"{\"ProtocolVersion\":\"1.1\",\"SenderID\":\"a000000000000001\",\
+        \"ReceiverID\":\"000013\",\"TransactionID\":1,\"MessageType\":\"XmitDataReq\",\
+        \"FRMPayload\":\"\",\"SessionKeyID\":\"0000000000000001000001\",\
+        \"DLMetaData\":{\"DevEUI\":\"0000000000000001\",\"FPort\":256}}",
+        "DLMetaData.FPort",
+    ),
+    (
+        b"{\"ProtocolVersion\":\"1.1\",\"SenderID\":\"a000000000000001\",\
+        \"ReceiverID\":\"000013\",\"TransactionID\":1,\"MessageType\":\"XmitDataReq\",\
+        \"FRMPayload\":\"\",\"SessionKeyID\":\"0000000000000001000001\",\
+        \"DLMetaData\":{\"DevEUI\":\"0000000000000001\",\"FPort\":0,\"FCntDown\":4294967296}}",
+        "DLMetaData.FCntDown",
+    ),
+    (
+        b"{\"ProtocolVersion\":\"1.1\",\"SenderID\":\"a000000000000001\",\
+        \"ReceiverID\":\"000013\",\"TransactionID\":1,\"MessageType\":\"XmitDataReq\",\
+        \"FRMPayload\":\"\",\"SessionKeyID\":\"0000000000000001000001\",\
+        \"DLMetaData\":{\"DevEUI\":\"0000000000000001\",\"FPort\":0,\"FCntDown\":0,\
+        \"Confirmed\":null}}",
+        "DLMetaData.Confirmed",
+    ),
+    (
+        b"{\"ProtocolVersion\":\"1.1\",\"SenderID\":\"a000000000000001\",\
+        \"ReceiverID\":\"000013\",\"TransactionID\":1,\"MessageType\":\"XmitDataReq\",\
+        \"PHYPayload\":null,\"FRMPayload\":\"\"}",
+        "PHYPayload",
+    ),
+    (
+        b"{\"ProtocolVersion\":\"1.1\",\"SenderID\":\"a000000000000001\",\
+        \"ReceiverID\":\"000013\",\"TransactionID\":1,\"MessageType\":\"XmitDataReq\",\
+        \"PHYPayload\":\"\",\"DataRate\":0}",
+        "ULMetaData.DataRate",
+    ),
 ];
+
+// A downlink of an application. Of a name that stands twice the last member counts.
+const DOWNLINK: &[u8] = b"{\"ProtocolVersion\":\"1.1\",\"SenderID\":\"a000000000000001\",\
+    \"ReceiverID\":\"000013\",\"TransactionID\":1,\"MessageType\":\"XmitDataReq\",\
+    \"FRMPayload\":\"0xaB01\",\"SessionKeyID\":\"70b3d57ed0001001000002\",\
+    \"DLMetaData\":{\"DevEUI\":\"70B3D57ED0001001\",\"FPort\":255,\"FCntDown\":1,\
+    \"FCntDown\":4294967295}}";
+
+// An uplink that a network passes on.
+const PASSED_ON: &[u8] = b"{\"ProtocolVersion\":\"1.1\",\"SenderID\":\"000014\",\
+    \"ReceiverID\":\"000013\",\"TransactionID\":1,\"MessageType\":\"XmitDataReq\",\
+    \"PHYPayload\":\"40\",\"ULMetaData\":{\"DataRate\":7}}";
 
 // The answers to requests that are refused for causes which the program doesn't print.
 const ASKED: &[u8] = b"{\"MessageType\":\"JoinAns\",\"ProtocolVersion\":\"1.1\",\
@@ -77,7 +149,12 @@ const PEER_SAID: &[u8] = b"{\"MessageType\":\"HomeNSAns\",\"ProtocolVersion\":\"
     \"ReceiverID\":\"000014\",\"Result\":{\"Description\":\"peer said Busy9\",\
     \"ResultCode\":\"Other\"},\"SenderID\":\"70b3d57ed0000001\",\"TransactionID\":7}";
 
-fn refused(alloc: Global, message_type: MessageType, cause: Refusal) -> Result<Text, Fail> {
+// The answer to an uplink that was passed on, with a downlink.
+const PASSED_BACK: &[u8] = b"{\"MessageType\":\"XmitDataAns\",\"PHYPayload\":\"60ff\",\
+    \"ProtocolVersion\":\"1.1\",\"ReceiverID\":\"000014\",\"Result\":{\"Description\":\"\",\
+    \"ResultCode\":\"Success\"},\"SenderID\":\"70b3d57ed0000001\",\"TransactionID\":7}";
+
+fn text_of(alloc: Global, message_type: MessageType, outcome: Outcome<'_>) -> Result<Text, Fail> {
     let head = Head {
         protocol_version: Text::of_slice(alloc, b"1.1").or(Err("memory"))?,
         sender: Sender::Network(NetId::new(0x14).ok_or("bits")?),
@@ -85,10 +162,7 @@ fn refused(alloc: Global, message_type: MessageType, cause: Refusal) -> Result<T
         transaction_id: 7,
         message_type,
     };
-    let answer = Answer::Headed {
-        head,
-        outcome: Outcome::Refused(cause),
-    };
+    let answer = Answer::Headed { head, outcome };
     Ok(answer_text(alloc, &answer).or(Err("memory"))?)
 }
 
@@ -119,7 +193,46 @@ fn a_refusal_has_its_text(rt: HostRuntime) -> Result<(), Fail> {
             PEER_SAID,
         ),
     ] {
-        assert_eq!(rt; refused(alloc, message_type, cause)?.as_slice(), want);
+        let outcome = Outcome::Refused(cause);
+        assert_eq!(rt; text_of(alloc, message_type, outcome)?.as_slice(), want);
     }
+    Ok(())
+}
+
+#[test]
+fn a_downlink_is_read_from_its_members(rt: HostRuntime) -> Result<(), Fail> {
+    let Ok(Ok(message)) = read_message(rt.alloc(), DOWNLINK) else {
+        return Err(Fail::from("no message"));
+    };
+    assert_eq!(rt; message.request.sender(), SenderKind::Application);
+    let Request::XmitDataReq(downlink) = message.request else {
+        return Err(Fail::from("no downlink"));
+    };
+    assert_eq!(rt; downlink.frm_payload.as_slice(), [0xab, 1].as_slice());
+    assert_eq!(rt; downlink.session_key_id.join_nonce.get(), 2);
+    assert_eq!(rt; downlink.dev_eui.0, 0x70b3d57ed0001001);
+    assert_eq!(rt; downlink.f_port, 255);
+    assert_eq!(rt; downlink.f_cnt_down, 4294967295);
+    assert_eq!(rt; downlink.confirmed, false);
+    Ok(())
+}
+
+#[test]
+fn an_uplink_is_passed_on_and_its_downlink_back(rt: HostRuntime) -> Result<(), Fail> {
+    let alloc = rt.alloc();
+    let Ok(Ok(message)) = read_message(alloc, PASSED_ON) else {
+        return Err(Fail::from("no message"));
+    };
+    assert_eq!(rt; message.request.sender(), SenderKind::Nobody);
+    let Request::XmitUplink(uplink) = message.request else {
+        return Err(Fail::from("no uplink"));
+    };
+    assert_eq!(rt; uplink.data_rate, 7);
+    let downlink = Text::of_slice(alloc, &[0x60, 0xff]).or(Err("memory"))?;
+    let outcome = Outcome::XmitDataAns(XmitDataAnswer {
+        phy_payload: Some(downlink),
+    });
+    let text = text_of(alloc, MessageType::XmitDataReq, outcome)?;
+    assert_eq!(rt; text.as_slice(), PASSED_BACK);
     Ok(())
 }

@@ -6,7 +6,7 @@ use Rattle.wire_ids.specs.declared.radio.Radio.{Radio}
 use Rattle.contexts.specs.Queue.{first_of, next_of}
 use Rattle.contexts.specs.declared.context.Context.{Context}
 use Rattle.contexts.specs.declared.context.Item.{Item}
-use Rattle.data_frames.specs.Downlinks as frame
+use Rattle.data_frames.specs.Downlinks as written
 use Rattle.data_frames.specs.Downlinks.{down_text}
 use Rattle.entries.specs.declared.change.Downlink.{Downlink}
 use Rattle.entries.specs.declared.change.Downlink.TheVariants.{Nothing, Empty, FirstItem}
@@ -62,7 +62,7 @@ abbrev pub is_pending : Downlink → Context → Bool
 is_pending down c = nat_lt 0 (length (answered down c).queue.items)
 
 -- under the network's own number, and without port
-abbrev pub empty_fields : Context → Option ℕ → ℕ → frame.Downlink
+abbrev pub empty_fields : Context → Option ℕ → ℕ → written.Downlink
 empty_fields c ack number = record {
   addr = c.addr;
   confirmed = false;
@@ -74,7 +74,7 @@ empty_fields c ack number = record {
 }
 
 -- under the application's number
-abbrev pub item_fields : Context → Option ℕ → Item → frame.Downlink
+abbrev pub item_fields : Context → Option ℕ → Item → written.Downlink
 item_fields c ack item = record {
   addr = c.addr;
   confirmed = item.confirmed;
@@ -85,15 +85,15 @@ item_fields c ack item = record {
   payload = item.payload.items;
 }
 
-abbrev pub fields_of : Context → Option ℕ → Downlink → Option frame.Downlink
+abbrev pub fields_of : Context → Option ℕ → Downlink → Option written.Downlink
 fields_of c ack Nothing = None
 fields_of c ack Empty = option_map (empty_fields c ack) (next_of c)
 fields_of c ack FirstItem = option_map (item_fields c ack) (first_of c)
 
 -- the downlink that answers an uplink of this counter at this rate
-unfoldable pub down_fields : Context → List ℕ → ℕ → ℕ → Option frame.Downlink
+unfoldable pub down_fields : Context → List ℕ → ℕ → ℕ → Option written.Downlink
 down_fields c frame rate count = fields_of c (ack_of frame count) (down_of c frame rate)
 
-abbrev pub text_under : Option SessionKeys → Option frame.Downlink → Option (List ℕ)
+abbrev pub text_under : Option SessionKeys → Option written.Downlink → Option (List ℕ)
 text_under None down = None
 text_under (Some keys) down = option_map (down_text keys) down

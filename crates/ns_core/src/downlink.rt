@@ -1,6 +1,6 @@
 //! Which downlink answers an uplink, and its frame.
 
-ghost use Rattle.std.specs.Prelude.{◌≡◌, ◌≤◌, ℕ, length, option_map, IfOk, IfSome, None, Some};
+ghost use Rattle.std.specs.Prelude.{◌≡◌, ◌≤◌, length, option_map, IfOk, IfSome, None, Some};
 ghost use Rattle.std.specs.Prelude.{[]};
 ghost use Rattle.data_frames.specs.DataForms as data_forms;
 ghost use Rattle.data_frames.specs.Downlinks.{downlink_of};
@@ -60,9 +60,9 @@ fn wants_downlink(up: &DataUp<'_>) -> bool
     up.confirmed || up.adr_ack_req
 }
 
-/// Which downlink answers an uplink that was heard at this rate.
+// Which downlink answers an uplink that was heard at this rate.
 #[tactic(auto, unfolding(crate::specs::Downlinks::down_of))]
-pub(crate) fn down_of(context: &Context, up: &DataUp<'_>, rate: u8) -> Downlink
+fn down_of(context: &Context, up: &DataUp<'_>, rate: u8) -> Downlink
     requires { HasFields up.now.whole.now (data_forms.fields_of up.now) }
     ensures { result ≡ down_of context.now up.now.whole.now rate }
 {
@@ -86,7 +86,7 @@ fn ack_of(up: &DataUp<'_>, count: u32) -> Option<u32>
 }
 
 // The fields of a downlink that answers with this ACK; none where there is no downlink.
-#[tactic(auto, using(crate::proofs::Downlinks::waits_behind))]
+#[tactic(auto, using(crate::proofs::Downlinks::waits_behind, crate::proofs::Downlinks::waits_yet))]
 fn fields_of(context: &Context, ack: Option<u32>, down: Downlink) -> Option<Down<'_>>
     ensures fields { option_map downlink_of result ≡ fields_of context.now ack down }
     ensures bare { IfSome result (λ d. d.port ≡ None → d.payload.now ≡ []) }
@@ -118,26 +118,29 @@ fn fields_of(context: &Context, ack: Option<u32>, down: Downlink) -> Option<Down
     }
 }
 
-/// The frame of the downlink that answers an uplink of this counter, under the session's keys, and
-/// None where none does.
+/// Which downlink answers an uplink of this counter at this rate, and its frame under the session's
+/// keys, where there is one.
 #[tactic(auto, unfolding(crate::specs::Downlinks::down_fields))]
-pub(crate) fn down_text(
+pub(crate) fn downlink(
     alloc: Global,
     keys: &SessionKeys,
     context: &Context,
     up: &DataUp<'_>,
+    rate: u8,
     count: u32,
-    down: Downlink,
-) -> Result<Option<Text>, Memory>
-    requires fields { HasFields up.now.whole.now (data_forms.fields_of up.now) }
-    ensures { (rate : ℕ) → down ≡ down_of context.now up.now.whole.now rate → IfOk result (λ text.
-        text ≡ text_under (Some keys.now) (down_fields context.now up.now.whole.now rate count)) }
+) -> Result<(Downlink, Option<Text>), Memory>
+    requires { HasFields up.now.whole.now (data_forms.fields_of up.now) }
+    ensures down { IfOk result (λ d. d.0 ≡ down_of context.now up.now.whole.now rate) }
+    ensures frame { IfOk result (λ d. d.1
+        ≡ text_under (Some keys.now) (down_fields context.now up.now.whole.now rate count)) }
 {
+    let down = down_of(context, up, rate);
     match fields_of(context, ack_of(up, count), down) {
-        None => Ok(None),
-        Some(down) => {
-            let frame = write_down(keys, &down);
-            Ok(Some(Text::of_slice(alloc, frame.as_slice())?))
+        None => Ok((down, None)),
+        Some(fields) => {
+            let frame = write_down(keys, &fields);
+            let text = Text::of_slice(alloc, frame.as_slice())?;
+            Ok((down, Some(text)))
         }
     }
 }

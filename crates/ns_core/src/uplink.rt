@@ -14,7 +14,7 @@ ghost use Rattle.ns_core.specs.Replies.{counted_with, heard_answer, success_at, 
 ghost use Rattle.ns_core.specs.Rules.{uplink_rules_at};
 ghost use Rattle.ns_core.specs.Speakers.{keys_of, speaker_now, speaker_of};
 
-use crate::downlink::{down_of, down_text};
+use crate::downlink::downlink;
 use crate::session::session_of;
 use crate::speaker::{Speaking, Valid, is_duplicate, speaker, valid_of};
 use crate::text::short_copy;
@@ -90,10 +90,16 @@ fn counted_with<'a>(
         (speaker_now speaker.now) (Some valid.now.count)) }
 {
     let Valid { keys, count } = valid;
-    let down = down_of(speaker.context, up, request.data_rate);
-    let text = down_text(alloc, keys, speaker.context, up, count.count, down)?;
+    let (down, frame) = downlink(
+        alloc,
+        keys,
+        speaker.context,
+        up,
+        request.data_rate,
+        count.count,
+    )?;
     let change = up_of(alloc, speaker, request, count, down)?;
-    let answer = heard_answer(head, speaker, Some(count.count), text);
+    let answer = heard_answer(head, speaker, Some(count.count), frame);
     Ok(Decision::Accept(answer, change))
 }
 

@@ -1,5 +1,6 @@
 -- The entry of what the home network decides fits.
-use Rattle.std.proofs.Common.{◌≡◌, ℕ, zero, suc, ◌+◌, ◌==◌, ◌<◌, ◌≤◌, ◌^◌, List, [], ◌∷◌, length, map, Bool, true, false, cond, not, ◌||◌, Option, Some, None, option_map, option_and_then, is_some, refl, sym, ap, ◌∙◌, subst, arith, eq-eqb, eqb-true}
+use Rattle.std.proofs.Common.{◌≡◌, ℕ, zero, suc, ◌+◌, ◌==◌, ◌<◌, ◌≤◌, ◌^◌, List, [], ◌∷◌, length, map, Bool, true, false, cond, not, ◌||◌, Option, Some, None, option_map, option_and_then, is_some, refl, sym, ap, ◌∙◌, subst, arith, eq-eqb, eqb-true, inl, inr, le-leb, lt-ltb}
+use Rattle.std.proofs.lemmas.Bool.{cases_lt, false≢true}
 use Rattle.std.proofs.lemmas.Option.{get_or_from_slice_get, slice_get_within}
 use Rattle.std.specs.List.{AllByRecursion, list_any}
 use Rattle.std.specs.Prelude.{◌&&◌, IsTrue, find, nat_le, nat_lt, position, slice_get}
@@ -343,29 +344,29 @@ uplink_fits c nwk m sender request s v names sound is =
 -- ---- the payload
 
 room_for : (n : ℕ) → n ≤ 8 → (n == 8) ≡ false → nat_lt n 8 ≡ true
-room_for n few other = by (nat_lt n 8) refl
-  where
-    by : (b : Bool) → nat_lt n 8 ≡ b → b ≡ true
-    by true is = refl
-    by false is =
-        let same : n ≡ 8 = omega (arith, few, is) in
-        let full : (n == 8) ≡ true = eq-eqb n 8 same in
-        absurd cc
+room_for n few other =
+    elim (cases_lt n 8) [
+      | inl less ↦ lt-ltb n 8 less
+      | inr most ↦
+          let same : n ≡ 8 = omega (arith, few, most) in
+          absurd (false≢true (sym other ∙ eq-eqb n 8 same))
+    ]
 
 below_next : (n next : ℕ) → nat_lt n next ≡ false → nat_le next n ≡ true
-below_next n next h = grind (arith, h)
+below_next n next h =
+    elim (cases_lt n next) [
+      | inl less ↦ absurd (false≢true (sym h ∙ lt-ltb n next less))
+      | inr most ↦ le-leb next n most
+    ]
 
 few_bytes : (n : ℕ) → nat_lt 242 n ≡ false → nat_le n 242 ≡ true
 few_bytes n h = below_next 242 n h
-
-in_range : (n : ℕ) → n < 2 ^ 32 → nat_lt n (2 ^ 32) ≡ true
-in_range n h = grind (arith, h)
 
 takes_item : (request : XmitDataRequest) (active : Option Context) → IsSoundSlot active → request.f_cnt_down < 2 ^ 32 → not (holds_of (is_under request) active) ≡ false
     → holds_of (is_used request) active ≡ false → holds_of has_8 active ≡ false → holds_of (takes request.f_cnt_down) active ≡ true
 takes_item request None sound range under next room = absurd cc
 takes_item request (Some c) sound range under next room =
-    rw (in_range request.f_cnt_down range, below_next request.f_cnt_down c.next_a next, room_for (length c.queue.items) sound.few room) refl
+    rw (lt-ltb request.f_cnt_down (2 ^ 32) range, below_next request.f_cnt_down c.next_a next, room_for (length c.queue.items) sound.few room) refl
 
 pub payload_fits : (c : Config) (m : Machine) (head : Head) (request : XmitDataRequest) (f : Found) → IsSound m → request.f_cnt_down < 2 ^ 32 → IsPayload c m head request f
     → (let change = queue_of request f.device in IsTrue (fits_change head.sender change (wake (change_wakes change m) m)))

@@ -1,5 +1,5 @@
 -- Of a request that is read, that its numbers are in their ranges.
-use Rattle.std.proofs.Common.{◌≡◌, ℕ, ◌<◌, ◌^◌, Bool, true, false, cond, List, length, Option, Some, None, option_and_then, is_some, Result, Ok, Err, refl, subst, arith}
+use Rattle.std.proofs.Common.{◌≡◌, ℕ, ◌<◌, ◌^◌, Bool, true, false, cond, List, length, Option, Some, None, option_and_then, is_some, Result, Ok, Err, refl, subst, ltb-true}
 use Rattle.std.specs.Prelude.{nat_lt}
 use Rattle.serde_json.specs.Data.{Data, Members, object}
 use Rattle.serde_json.specs.Find.{as_bool, as_number, as_object, as_u64}
@@ -37,7 +37,7 @@ unfolding whole_form
 number_read limit d n e = by (option_and_then as_u64 (as_number d)) e
   where
     at : (x : ℕ) (b : Bool) → nat_lt x limit ≡ b → cond b (Some x) None ≡ Some n → n < limit
-    at x true is e = let same : x ≡ n = cc in subst (λ (k : ℕ). k < limit) same (omega (arith, is))
+    at x true is e = let same : x ≡ n = cc in subst (λ (k : ℕ). k < limit) same (ltb-true x limit is)
     at x false is e = absurd cc
 
     by : (o : Option ℕ) → option_and_then (below limit) o ≡ Some n → n < limit

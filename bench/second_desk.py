@@ -110,8 +110,6 @@ def session_name(d, seed):
 class Desk:
     """A desk over a tables text and the records of a journal. The entries of this life are in `written`."""
 
-    downlinks = False  # whether payloads are taken for devices, and downlinks are sent
-
     def __init__(self, tables, records=(), now=0):
         self.read_tables(tables)
         self.kept = {}
@@ -238,7 +236,7 @@ class Desk:
 
     def type_of(self, kind, v):
         """The kinds of the sender and of the receiver, and the members; None for a type that isn't served."""
-        if kind == "XmitDataReq" and self.downlinks:
+        if kind == "XmitDataReq":
             return XMIT_OF_NETWORKS if "PHYPayload" in v else XMIT
         return TYPES.get(kind)
 
@@ -417,7 +415,7 @@ class Desk:
         if frame == c.frame:
             return dict(more, FCntUp=c.last), None
         count, channel = self.valid_up(d, c, frame, rate)
-        down, text = self.downlink(d, c, frame, count, rate) if self.downlinks else (0, None)
+        down, text = self.downlink(d, c, frame, count, rate)
         more["FCntUp"] = count
         if down:
             more["PHYPayload"] = text.hex()

@@ -3,12 +3,11 @@ use Rattle.std.proofs.Common.{inl, inr, ◌≡◌, ℕ, ◌+◌, ◌-◌, ◌%�
 use Rattle.std.proofs.lemmas.Bool.{cases_lt}
 use Rattle.std.proofs.lemmas.List.{take_at, drop_at}
 use Rattle.wire_ids.specs.declared.keys.SessionKeys.{SessionKeys}
-use Rattle.data_frames.specs.declared.downlink.Down.{Down}
 use Rattle.data_frames.specs.declared.sending.UpParts.{UpParts}
 use Rattle.data_frames.specs.declared.uplink.DataUp.{DataUp}
 use Rattle.data_frames.specs.Counts.{IsFullCount}
 use Rattle.data_frames.specs.DataForms.{DataForm, Uplink, fields_of, port_and_payload, up_message}
-use Rattle.data_frames.specs.Downlinks.{HasDownMic, down_conf, down_message, down_text, parts_of, sent}
+use Rattle.data_frames.specs.Downlinks.{Downlink, HasDownMic, down_conf, down_message, down_text, parts_of, sent}
 use Rattle.data_frames.specs.Mics.{HasUpMic, down_mic, f_half, s_half, up_mic, without_mic}
 use Rattle.data_frames.proofs.Halves.{length-down_mic, length-f_half, length-s_half}
 
@@ -81,7 +80,7 @@ sent_is_valid keys p up same form =
 
 -- ---- downlinks
 
-pub down_has_mic : (keys : SessionKeys) (d : Down) → HasDownMic keys d (down_text keys d)
+pub down_has_mic : (keys : SessionKeys) (d : Downlink) → HasDownMic keys d (down_text keys d)
 down_has_mic keys d =
     let m : List ℕ = down_message d in
     let mic : List ℕ = down_mic keys.s d.addr d.count (down_conf d.ack) m in

@@ -1,6 +1,6 @@
 ghost use Rattle.std.specs.Prelude.{◌≡◌, ◌≤◌, [], length, None};
 ghost use Rattle.data_frames.specs.Downlinks.{down_conf, down_fctrl};
-ghost use Rattle.data_frames.specs.Downlinks.{down_message, down_text};
+ghost use Rattle.data_frames.specs.Downlinks.{down_message, down_text, downlink_of};
 
 use crate::DownBytes;
 use crate::buffer::{Fields, message};
@@ -26,7 +26,7 @@ pub struct Down<'a> {
 
 impl<'a> Down<'a> {
     fn fctrl(&self) -> u8
-        ensures { result ≡ down_fctrl self.now }
+        ensures { result ≡ down_fctrl (downlink_of self.now) }
     {
         let ack = if self.ack.is_some() { 32 } else { 0 };
         let pending = if self.pending { 16 } else { 0 };
@@ -47,7 +47,7 @@ impl<'a> Down<'a> {
 #[tactic(auto, unfolding(crate::specs::Downlinks::down_message))]
 fn down_message(down: &Down<'_>) -> DownBytes
     requires { length down.now.payload.now ≤ 242 }
-    ensures text { result ≡ down_message down.now }
+    ensures text { result ≡ down_message (downlink_of down.now) }
     ensures bound { length result ≤ 251 }
 {
     let mhdr = if down.confirmed { 0xa0 } else { 0x60 };
@@ -70,7 +70,7 @@ fn down_message(down: &Down<'_>) -> DownBytes
 pub fn write_down(keys: &SessionKeys, down: &Down<'_>) -> DownBytes
     requires payload { length down.now.payload.now ≤ 242 }
     requires bare { down.now.port ≡ None → down.now.payload.now ≡ [] }
-    ensures { result ≡ down_text keys.now down.now }
+    ensures { result ≡ down_text keys.now (downlink_of down.now) }
 {
     let frame = down_message(down);
     let fields = BlockFields {

@@ -4,9 +4,8 @@ ghost use Rattle.std.specs.Prelude.{◌≡◌, ◌<◌, ◌≤◌, ◌+◌, ◌%
 ghost use Rattle.wire_ids.specs.declared.keys.SessionKeys.{SessionKeys};
 ghost use Rattle.data_frames.specs.Counts.{IsFullCount};
 ghost use Rattle.data_frames.specs.DataForms.{DataForm, Uplink, data_fault, fields_of};
-ghost use Rattle.data_frames.specs.Downlinks.{HasDownMic, down_text, sent};
+ghost use Rattle.data_frames.specs.Downlinks.{Downlink, HasDownMic, down_text, sent};
 ghost use Rattle.data_frames.specs.Mics.{HasUpMic};
-ghost use Rattle.data_frames.specs.declared.downlink.Down.{Down};
 ghost use Rattle.data_frames.specs.declared.sending.UpParts.{UpParts};
 ghost use Rattle.data_frames.specs.declared.uplink.DataUp.{DataUp};
 
@@ -24,7 +23,7 @@ pub fn sent_uplinks_are_valid()
 
 /// A downlink's last four bytes are the MIC of those before them.
 pub fn downlinks_have_their_mic()
-    ensures { (keys : SessionKeys) (d : Down) → HasDownMic keys d (down_text keys d) }
+    ensures { (keys : SessionKeys) (d : Downlink) → HasDownMic keys d (down_text keys d) }
 {}
 
 /// There is one full counter at most. A device's first counter below 2^16, and each counter that is

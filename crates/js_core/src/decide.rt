@@ -14,7 +14,7 @@ ghost use Rattle.js_core.specs.Replies.{outcome_of, refused, refuses, success_of
 ghost use Rattle.js_core.specs.Rules.{app_s_key_rules_at, by_rules, home_ns_rules_at, join_rules};
 ghost use Rattle.js_core.specs.Rules.{rules_of};
 
-use crate::found::find;
+use crate::found::found_device;
 use crate::home::home_accept;
 use crate::keys::{answer_keys, application_key};
 use crate::rules::{JoinTarget, app_s_key_target, join_target};
@@ -237,7 +237,7 @@ fn home_ns_decision<'a>(
         (home_ns_rules_at (found_of tables.now state.now.now request.now.dev_eui))
         (home_ns_success_at head (found_of tables.now state.now.now request.now.dev_eui))) }
 {
-    let Some(found) = find(tables, state, request.dev_eui) else {
+    let Some(found) = found_device(tables, state, request.dev_eui) else {
         return Ok(Decision::Reply(refused(head, Refusal::Device)));
     };
     let h_net_id = found.row.home;

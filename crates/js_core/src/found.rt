@@ -9,7 +9,7 @@ use wire_ids::Eui;
 
 /// A device of the tables: its number there, its row, and what is kept of it.
 #[derive(Clone, Copy)]
-pub(crate) struct FoundDevice<'a> {
+pub struct FoundDevice<'a> {
     pub number: u32,
     pub row: &'a DeviceRow,
     pub kept: &'a Device,
@@ -17,7 +17,7 @@ pub(crate) struct FoundDevice<'a> {
 
 /// The device with this DevEUI, and None where the tables or the state have no row for it.
 #[tactic(auto, unfolding(crate::specs::Found::found_of))]
-pub(crate) fn find<'a>(tables: &'a Tables, state: &'a State, dev: Eui) -> Option<FoundDevice<'a>>
+pub fn found_device<'a>(tables: &'a Tables, state: &'a State, dev: Eui) -> Option<FoundDevice<'a>>
     ensures device { option_map found_now result ≡ found_of tables.now state.now.now dev }
     ensures number { IfSome result (λ f. f.number < length tables.now.devices) }
     ensures row { IfSome result (λ f. slice_get tables.now.devices f.number ≡ Some f.row.now) }

@@ -10,7 +10,7 @@ ghost use Rattle.js_core.specs.Home.{home_found, home_rules_at, sender_found, st
 ghost use Rattle.js_core.specs.Replies.{accept_kind, home_accept, rejoin_kind};
 ghost use Rattle.js_core.specs.Steps.{is_spent, step_of};
 
-use crate::found::find;
+use crate::found::found_device;
 use crate::frames::dev_eui;
 use crate::rules::join_step;
 use crate::step::JoinStep;
@@ -56,7 +56,7 @@ fn step_now<'a, E: BlockFn, D: BlockFn>(
         ≡ step_of (nwk_at vault.now s.number) frame.now up.now s.kept.now) }
     ensures unspent { IfOk result (λ s. is_spent s.kept.now ≡ false) }
 {
-    let Some(device) = find(tables, state, dev_eui(up)) else {
+    let Some(device) = found_device(tables, state, dev_eui(up)) else {
         return Err(Refusal::Device);
     };
     if !device.kept.is_home {

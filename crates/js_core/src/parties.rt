@@ -72,7 +72,7 @@ pub(crate) fn is_net(net: NetId, sender: Sender) -> bool
 }
 
 /// Whether the sender is the application of this name.
-pub(crate) fn is_app(app: Eui, sender: Sender) -> bool
+pub fn is_app(app: Eui, sender: Sender) -> bool
     ensures { result ≡ is_app app sender }
 {
     match sender {

@@ -15,7 +15,7 @@ ghost use Rattle.js_core.specs.Steps.{is_spent, step_of};
 ghost use Rattle.entry_codec.specs.declared.device.Device.{Device};
 
 use crate::Activation;
-use crate::found::{FoundDevice, find};
+use crate::found::{FoundDevice, found_device};
 use crate::frames::{fitting_frame, wrong_size};
 use crate::parties::{is_app, is_net};
 use crate::step::{JoinStep, checked_mic, low_counter, next_seed, used_seed, wrong_eui};
@@ -110,7 +110,7 @@ pub(crate) fn join_target<'a, E: BlockFn, D: BlockFn>(
     let Some(up) = fitting_frame(activation, request) else {
         return Err(Refusal::Frame);
     };
-    let Some(device) = find(tables, state, request.dev_eui) else {
+    let Some(device) = found_device(tables, state, request.dev_eui) else {
         return Err(Refusal::Device);
     };
     if wrong_home(head, &device) {
@@ -181,7 +181,7 @@ pub(crate) fn app_s_key_target<'a>(
     ensures seed { IfOk result (λ t. seed_with request.now.session_key_id.join_nonce t.0.kept.now
         ≡ Some t.1.now) }
 {
-    let Some(device) = find(tables, state, request.dev_eui) else {
+    let Some(device) = found_device(tables, state, request.dev_eui) else {
         return Err(Refusal::Device);
     };
     if wrong_app(head, &device) {

@@ -22,7 +22,7 @@ use Rattle.js_core.proofs.Causes.{first_said, none_said}
 use Rattle.ns_core.specs.Frames.{addr_of, is_data}
 use Rattle.ns_core.specs.Heard.{Heard, Join, Data, Neither, heard_by, heard_of}
 use Rattle.ns_core.specs.Own.{own_context}
-use Rattle.ns_core.specs.Replies.{activated_with, counted_with, heard_answer, success_at, uplink_decided, uplink_success}
+use Rattle.ns_core.specs.Replies.{activated_with, counted_with, duplicate_answer, success_at, uplink_decided, uplink_success}
 use Rattle.ns_core.specs.Rules.{CausesAscend, no_address, uplink_rules, uplink_rules_at}
 use Rattle.ns_core.specs.Speakers.{Speaker, count_of, is_duplicate, speaker_of}
 use Rattle.ns_core.specs.declared.valid.Count.{Count}
@@ -130,7 +130,7 @@ module _ (c : Config) (nwk : ℕ → List ℕ) (m : Machine) (head : Head) (requ
   no_speaker speaker sized none = rw (none, sized) refl
 
   pub duplicate_said : (speaker : Option Speaker) (s : Speaker) → wrong_size request.phy_payload ≡ false → speaker ≡ Some s → is_duplicate request.phy_payload s ≡ true
-      → (let d : JsDecision = decision.Reply (heard_answer head s s.context.last) in d ≡ comes (Data speaker))
+      → (let d : JsDecision = decision.Reply (duplicate_answer head s) in d ≡ comes (Data speaker))
   duplicate_said speaker s sized is same = rw (is, sized, same) refl
 
   pub wrong_said : (speaker : Option Speaker) (s : Speaker) → wrong_size request.phy_payload ≡ false → speaker ≡ Some s → is_duplicate request.phy_payload s ≡ false
@@ -138,7 +138,7 @@ module _ (c : Config) (nwk : ℕ → List ℕ) (m : Machine) (head : Head) (requ
   wrong_said speaker s sized is new none = rw (is, sized, new, none) refl
 
   pub counted_said : (speaker : Option Speaker) (s : Speaker) (v : Count) → wrong_size request.phy_payload ≡ false → speaker ≡ Some s → is_duplicate request.phy_payload s ≡ false
-      → count_of nwk request.phy_payload request.data_rate s ≡ Some v → counted_with head request s (Some v) ≡ comes (Data speaker)
+      → count_of nwk request.phy_payload request.data_rate s ≡ Some v → counted_with nwk head request s (Some v) ≡ comes (Data speaker)
   counted_said speaker s v sized is new some = rw (is, sized, new, some) refl
 
 -- ---- their order

@@ -7,8 +7,9 @@ use Rattle.agreements.specs.Walk.{Config}
 use Rattle.agreements.specs.declared.rows.DeviceRow.{DeviceRow}
 use Rattle.backend_json.specs.declared.head.Head.{Head}
 use Rattle.backend_json.specs.declared.request.Request.{Request}
-use Rattle.backend_json.specs.declared.request.Request.TheVariants.{AppSKeyReq, HomeNSReq, JoinReq, RejoinReq, UplinkReq, Unknown}
+use Rattle.backend_json.specs.declared.request.Request.TheVariants.{AppSKeyReq, HomeNSReq, JoinReq, RejoinReq, UplinkReq, Unknown, XmitDataReq, XmitUplink}
 use Rattle.backend_json.specs.declared.request.UplinkRequest.{UplinkRequest}
+use Rattle.backend_json.specs.declared.request.XmitDataRequest.{XmitDataRequest}
 use Rattle.entries.specs.declared.used_seed.UsedSeed.{UsedSeed}
 use Rattle.entry_codec.specs.LookUps.{live_context}
 use Rattle.entry_codec.specs.Machine.{Machine}
@@ -26,8 +27,10 @@ use Rattle.js_core.proofs.Unread.{SameBare, bare, erased, found_bare, of_bare}
 use Rattle.ns_core.specs.Frames.{addr_of, is_data}
 use Rattle.ns_core.specs.Heard.{Heard, Join, Data, Neither, heard_by, heard_of}
 use Rattle.ns_core.specs.Own.{own_address, own_context}
+use Rattle.ns_core.specs.Payloads.{payload_decided}
 use Rattle.ns_core.specs.Replies.{accept_members, ns_decided, success_at, uplink_decided, uplink_success}
 use Rattle.ns_core.specs.Rules.{uplink_rules, uplink_rules_at}
+use Rattle.ns_core.proofs.Payloads.{payload_at}
 use Rattle.ns_core.specs.Speakers.{Speaker, context_at, name_of, speaker_at, speaker_of, speaker_with}
 
 -- ---- who is heard
@@ -96,9 +99,19 @@ module _ (c : Config) (nwk : ℕ → List ℕ) (m : Machine) (head : Head) (requ
   unfolding uplink_decided uplink_rules uplink_success
   uplink_bare = ap (comes (bare c)) (of_heard c m request.phy_payload) ∙ as_bare (heard_of c m request.phy_payload)
 
+found_then : (head : Head) (request : XmitDataRequest) (found : Option Found) → payload_at head request (option_map found_bare found) ≡ payload_at head request found
+found_then head request None = refl
+found_then head request (Some f) = refl
+
+payload_bare : (c : Config) (m : Machine) (head : Head) (request : XmitDataRequest) → payload_decided (bare c) m head request ≡ payload_decided c m head request
+unfolding payload_decided
+payload_bare c m head request = ap (payload_at head request) (of_bare c m request.dev_eui) ∙ found_then head request _
+
 decided_bare : (c : Config) (nwk : ℕ → List ℕ) (m : Machine) (head : Head) (request : Request) → ns_decided (bare c) nwk m head request ≡ ns_decided c nwk m head request
 unfolding ns_decided
 decided_bare c nwk m head (UplinkReq request) = uplink_bare c nwk m head request
+decided_bare c nwk m head (XmitDataReq request) = payload_bare c m head request
+decided_bare c nwk m head (XmitUplink request) = refl
 decided_bare c nwk m head (JoinReq request) = refl
 decided_bare c nwk m head (RejoinReq request) = refl
 decided_bare c nwk m head (AppSKeyReq request) = refl

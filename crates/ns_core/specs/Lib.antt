@@ -2,7 +2,10 @@ pub mod Least
 pub mod Frames
 pub mod Valid
 pub mod Speakers
+pub mod Downlinks
 pub mod Heard
 pub mod Own
 pub mod Rules
+pub mod Sessions
+pub mod Payloads
 pub mod Replies

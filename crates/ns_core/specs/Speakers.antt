@@ -18,6 +18,7 @@ use Rattle.entry_codec.specs.declared.parties.Holder.TheVariants as holder
 use Rattle.entry_codec.specs.declared.parties.LiveContext.{LiveContext}
 use Rattle.ns_core.specs.Valid.{up_valid}
 use Rattle.ns_core.specs.declared.speaker.Speaking.{Speaking}
+use Rattle.ns_core.specs.declared.speaker.Valid.{Valid}
 use Rattle.ns_core.specs.declared.valid.Count.{Count}
 
 -- a device of the tables or a visitor, with one of its contexts
@@ -53,6 +54,10 @@ speaker_of c m addr = speaker_at c m (live_context addr m)
 -- the same of the speaker that the code found
 abbrev pub speaker_now : Speaking → Speaker
 speaker_now s = record { holder = s.holder; dev_eui = s.dev_eui; pending = s.pending; context = s.context.now }
+
+-- and of what is valid of a frame of theirs
+abbrev pub count_in : Valid → Count
+count_in v = v.count
 
 -- a device is one of so many rows
 abbrev pub HasRow : ℕ → Holder → Type 0

@@ -1,4 +1,4 @@
-//! What a request of a gateway comes to.
+//! What a request of a gateway or an application comes to.
 
 ghost use Rattle.std.specs.Prelude.{◌≡◌, length, IfOk};
 ghost use Rattle.entry_codec.specs.Machine.{lapse};
@@ -8,6 +8,7 @@ ghost use Rattle.ns_core.specs.Replies.{ns_decided, uplink_decided};
 
 use crate::activation::activation_decision;
 use crate::frames::data_up;
+use crate::payload::payload_decision;
 use crate::uplink::data_decision;
 use agreements::Tables;
 use backend_json::{Head, Message, Refusal, Request, UplinkRequest};
@@ -75,15 +76,21 @@ fn decide<'a, E: BlockFn, D: BlockFn>(
         Request::RejoinReq(_) => refusal_decision(head, Refusal::Type),
         Request::AppSKeyReq(_) => refusal_decision(head, Refusal::Type),
         Request::HomeNSReq(_) => refusal_decision(head, Refusal::Type),
+        Request::XmitDataReq(request) => {
+            payload_decision(alloc, tables, state, head, request, now)
+        }
+        Request::XmitUplink(_) => refusal_decision(head, Refusal::Type),
         Request::Unknown => refusal_decision(head, Refusal::Type),
     }
 }
 
-/// What a request comes to from the rule of its frame's size on, in the state at this moment: it is
+/// What a request comes to from the rule of its size on, in the state at this moment: it is
 /// refused for the first rule that holds, and else succeeds. A join- or rejoin-request of a device
 /// at home here gives it a pending context, whose accept is in the answer; a valid data uplink is
-/// kept as the last one of its context, and a duplicate of that one changes nothing. A request of a
-/// type that isn't a home network's is refused. The one error is want of memory.
+/// kept as the last one of its context, and the downlink that answers it is in the answer; a
+/// duplicate of that one changes nothing and has no downlink; a payload of an application goes last
+/// in the queue of the device's active context. A request of a type that isn't a home network's is
+/// refused. The one error is want of memory.
 pub fn ns_decide<'a, E: BlockFn, D: BlockFn>(
     alloc: Global,
     tables: &Tables,

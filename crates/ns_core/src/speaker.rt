@@ -1,13 +1,13 @@
 //! Who is heard under an address, and under which keys.
 
-ghost use Rattle.std.specs.Prelude.{◌≡◌, ◌<◌, length, option_map, IfSome};
+ghost use Rattle.std.specs.Prelude.{◌≡◌, ◌<◌, length, option_map, IfSome, Some};
 ghost use Rattle.std.specs.Option.{option_copied};
 ghost use Rattle.data_frames.specs.DataForms.{fields_of};
 ghost use Rattle.entry_codec.specs.Machine.{lapse};
 ghost use Rattle.key_vault.specs.Table.{nwk_at};
 ghost use Rattle.ns_core.specs.Frames.{HasFields};
-ghost use Rattle.ns_core.specs.Speakers.{HasRow, context_at, count_of, in_slot, is_duplicate};
-ghost use Rattle.ns_core.specs.Speakers.{keys_of, name_of, speaker_now, speaker_of};
+ghost use Rattle.ns_core.specs.Speakers.{HasRow, context_at, count_in, count_of, in_slot};
+ghost use Rattle.ns_core.specs.Speakers.{is_duplicate, keys_of, name_of, speaker_now, speaker_of};
 
 use crate::valid::{Count, up_valid};
 use agreements::Tables;
@@ -113,21 +113,34 @@ pub(crate) fn is_duplicate(frame: &[u8], speaker: &Speaking<'_>) -> bool
     speaker.context.frame.as_slice() == frame
 }
 
-/// The full counter and the channel of a frame of the speaker's, where it is valid.
+/// What is valid of a frame: the keys of its session, its full counter and its channel.
+#[derive(Clone, Copy)]
+pub(crate) struct Valid {
+    pub keys: SessionKeys,
+    pub count: Count,
+}
+
+/// The session's keys, and the full counter and the channel of a frame of the speaker's, where it is
+/// valid.
 #[tactic(auto, unfolding(crate::specs::Speakers::count_of))]
-pub(crate) fn count_of<E: BlockFn, D: BlockFn>(
+pub(crate) fn valid_of<E: BlockFn, D: BlockFn>(
     vault: &Vault<E, D>,
     up: &DataUp<'_>,
     rate: u8,
     speaker: &Speaking<'_>,
-) -> Option<Count>
+) -> Option<Valid>
     requires row { HasRow (length vault.now) speaker.now.holder }
     requires fields { HasFields up.now.whole.now (fields_of up.now) }
-    ensures { result
+    ensures count { option_map count_in result
         ≡ count_of (nwk_at vault.now) up.now.whole.now rate (speaker_now speaker.now) }
+    ensures keys { IfSome result (λ v. keys_of (nwk_at vault.now) speaker.now.holder
+        speaker.now.context.now.origin ≡ Some v.keys) }
 {
     let Some(keys) = keys_of(vault, speaker.holder, &speaker.context.origin) else {
         return None;
     };
-    up_valid(&keys, speaker.context, up, rate)
+    match up_valid(&keys, speaker.context, up, rate) {
+        Some(count) => Some(Valid { keys, count }),
+        None => None,
+    }
 }

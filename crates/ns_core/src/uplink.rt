@@ -1,47 +1,42 @@
 //! Data uplinks of live contexts, which a gateway heard.
 
-ghost use Rattle.std.specs.Prelude.{◌≡◌, ◌≤◌, length, IfOk, Some, false};
+ghost use Rattle.std.specs.Prelude.{◌≡◌, ℕ, List, length, IfOk, Some, false};
 ghost use Rattle.data_frames.specs.DataForms.{fields_of};
 ghost use Rattle.entry_codec.specs.Machine.{lapse};
 ghost use Rattle.js_core.specs.Frames.{wrong_size};
 ghost use Rattle.js_core.specs.Replies.{refuses};
 ghost use Rattle.js_core.specs.Rules.{by_rules};
 ghost use Rattle.key_vault.specs.Table.{nwk_at};
+ghost use Rattle.ns_core.specs.Downlinks.{down_of};
 ghost use Rattle.ns_core.specs.Frames.{HasFields};
 ghost use Rattle.ns_core.specs.Heard.{Data};
-ghost use Rattle.ns_core.specs.Replies.{heard_answer, session_of, success_at, up_of};
+ghost use Rattle.ns_core.specs.Replies.{counted_with, heard_answer, success_at, up_of};
 ghost use Rattle.ns_core.specs.Rules.{uplink_rules_at};
-ghost use Rattle.ns_core.specs.Speakers.{speaker_now, speaker_of};
+ghost use Rattle.ns_core.specs.Speakers.{keys_of, speaker_now, speaker_of};
 
-use crate::speaker::{Speaking, count_of, is_duplicate, speaker};
+use crate::downlink::downlink;
+use crate::session::session_of;
+use crate::speaker::{Speaking, Valid, is_duplicate, speaker, valid_of};
+use crate::text::short_copy;
 use crate::valid::Count;
 use agreements::Tables;
-use backend_json::{Answer, Head, Outcome, Refusal, SessionKeyId, UplinkAnswer, UplinkRequest};
-use contexts::Origin;
+use backend_json::{Answer, Head, Outcome, Refusal, UplinkAnswer, UplinkRequest};
 use data_frames::DataUp;
 use entries::{Change, Downlink, Uplink};
 use entry_codec::State;
 use js_core::{JsDecision, refused};
 use key_vault::{BlockFn, Vault};
 use std::alloc::Global;
-use wire_ids::{Decision, Eui, Memory, Moment, ShortText};
+use wire_ids::{Decision, Memory, Moment, Text};
 
-// The session, where it began with a join- or rejoin-request to this desk.
-fn session_of(dev_eui: Eui, origin: &Origin) -> Option<SessionKeyId>
-    ensures { result ≡ session_of dev_eui origin.now }
-{
-    match origin {
-        Origin::Seeded(seed) => Some(SessionKeyId {
-            dev_eui,
-            join_nonce: seed.nonce,
-        }),
-        Origin::Given { .. } => None,
-    }
-}
-
-// Whoever sent the frame is told the device and the full counter.
-fn heard_answer(head: Head, speaker: &Speaking<'_>, count: Option<u32>) -> Answer<'static>
-    ensures { result ≡ heard_answer head (speaker_now speaker.now) count }
+// Whoever sent the frame is told the device and the full counter, and is given the downlink.
+fn heard_answer(
+    head: Head,
+    speaker: &Speaking<'_>,
+    count: Option<u32>,
+    down: Option<Text>,
+) -> Answer<'static>
+    ensures { result ≡ heard_answer head (speaker_now speaker.now) count down }
 {
     let dev_eui = speaker.dev_eui;
     let session_key_id = session_of(dev_eui, &speaker.context.origin);
@@ -50,29 +45,21 @@ fn heard_answer(head: Head, speaker: &Speaking<'_>, count: Option<u32>) -> Answe
         outcome: Outcome::UplinkAns(UplinkAnswer {
             dev_eui,
             f_cnt_up: count,
-            phy_payload: None,
+            phy_payload: down,
             session_key_id,
         }),
     }
 }
 
-// The frame, as an entry holds it, which is far shorter than what it has room for.
-fn short_copy(alloc: Global, bytes: &[u8]) -> Result<ShortText, Memory>
-    ensures { IfOk result (λ short. short ≡ bytes.now) }
-{
-    match ShortText::of_slice(alloc, bytes)? {
-        Some(short) => Ok(short),
-        None => Err(Memory),
-    }
-}
-
-// The uplink is the last one of its context, and no downlink is sent.
+// The uplink is the last one of its context, with which downlink answers it.
 fn up_of(
     alloc: Global,
     speaker: &Speaking<'_>,
     request: &UplinkRequest,
     count: &Count,
+    down: Downlink,
 ) -> Result<Change, Memory>
+    requires { down ≡ down_of speaker.now.context.now request.now.phy_payload request.now.data_rate }
     ensures { IfOk result (λ up. up ≡ up_of (speaker_now speaker.now) request.now count.now) }
 {
     let frame = short_copy(alloc, request.phy_payload.as_slice())?;
@@ -82,8 +69,38 @@ fn up_of(
         count: count.count,
         frame,
         channel: count.channel,
-        down: Downlink::Nothing,
+        down,
     }))
+}
+
+// What a valid uplink comes to: its counter is told, and the downlink is sent that answers it.
+#[tactic(auto, unfolding(crate::specs::Replies::down_behind))]
+fn counted_with<'a>(
+    alloc: Global,
+    head: Head,
+    request: &UplinkRequest,
+    up: &DataUp<'_>,
+    speaker: &Speaking<'_>,
+    valid: &Valid,
+) -> Result<JsDecision<'a>, Memory>
+    requires fields { HasFields request.now.phy_payload (fields_of up.now) }
+    requires whole { up.now.whole.now ≡ request.now.phy_payload }
+    ensures { (nwk : ℕ → List ℕ) → keys_of nwk speaker.now.holder speaker.now.context.now.origin
+        ≡ Some valid.now.keys → IfOk result (λ d. d ≡ counted_with nwk head request.now
+        (speaker_now speaker.now) (Some valid.now.count)) }
+{
+    let Valid { keys, count } = valid;
+    let (down, frame) = downlink(
+        alloc,
+        keys,
+        speaker.context,
+        up,
+        request.data_rate,
+        count.count,
+    )?;
+    let change = up_of(alloc, speaker, request, count, down)?;
+    let answer = heard_answer(head, speaker, Some(count.count), frame);
+    Ok(Decision::Accept(answer, change))
 }
 
 /// What a data uplink comes to whose size is one of its type.
@@ -110,13 +127,11 @@ pub(crate) fn data_decision<'a, E: BlockFn, D: BlockFn>(
         return Ok(Decision::Reply(refused(head, Refusal::Address)));
     };
     if is_duplicate(request.phy_payload.as_slice(), &speaker) {
-        let answer = heard_answer(head, &speaker, speaker.context.last);
+        let answer = heard_answer(head, &speaker, speaker.context.last, None);
         return Ok(Decision::Reply(answer));
     }
-    let Some(count) = count_of(vault, up, request.data_rate, &speaker) else {
-        return Ok(Decision::Reply(refused(head, Refusal::Mic)));
-    };
-    let change = up_of(alloc, &speaker, request, &count)?;
-    let answer = heard_answer(head, &speaker, Some(count.count));
-    Ok(Decision::Accept(answer, change))
+    match valid_of(vault, up, request.data_rate, &speaker) {
+        Some(valid) => counted_with(alloc, head, request, up, &speaker, &valid),
+        None => Ok(Decision::Reply(refused(head, Refusal::Mic))),
+    }
 }

@@ -25,7 +25,7 @@ use Rattle.backend_json.specs.declared.head.Head.{Head}
 use Rattle.backend_json.specs.declared.message.Bad.{Bad}
 use Rattle.backend_json.specs.declared.message.Message.{Message}
 use Rattle.backend_json.specs.declared.request.Request.{Request}
-use Rattle.backend_json.specs.declared.request.Request.TheVariants.{AppSKeyReq, HomeNSReq, JoinReq, RejoinReq, UplinkReq, Unknown}
+use Rattle.backend_json.specs.declared.request.Request.TheVariants.{AppSKeyReq, HomeNSReq, JoinReq, RejoinReq, UplinkReq, Unknown, XmitDataReq, XmitUplink}
 use Rattle.entries.specs.declared.change.Change.{Change}
 use Rattle.entries.specs.declared.entry.Entry.{Entry}
 use Rattle.entry_codec.specs.Empty.{empty, empty_kept, new_device, no_answers, senders_of}
@@ -275,7 +275,7 @@ module _ (c : Config) (d : ℕ) (key : List ℕ) where
   abbrev keys' : List RootKeys
   keys' = map keys_of (with_app_key d key c).devices
 
-  -- a gateway's request comes to the same
+  -- what the home network decides comes to the same
   heard_alike : (m : Machine) (head : Head) (request : Request) → JudgedAlike c d (ns_decided c (nwk_at keys) m head request) (ns_decided (with_app_key d key c) (nwk_at keys') m head request)
   heard_alike m head request =
       let same = unread c (with_app_key d key c) (same_bare d key c) (nwk_at keys) m head request ∙ ap (λ (nwk : ℕ → List ℕ). ns_decided (with_app_key d key c) nwk m head request) (of_request.keys_with d key c).nwk in
@@ -285,7 +285,7 @@ module _ (c : Config) (d : ℕ) (key : List ℕ) where
         activation = λ asked up f own is. (same_answer c d _, refl);
         duplicate = λ s. same_answer c d _;
         uplink = λ asked s v is. (same_answer c d _, refl);
-      }) request)
+      }) (λ asked f is. (same_answer c d _, refl)) request)
 
   asked_alike : (m : Machine) (head : Head) (request : Request)
       → JudgedAlike c d (js_decided c (nwk_at keys) (app_at keys) m head request) (js_decided (with_app_key d key c) (nwk_at keys') (app_at keys') m head request)
@@ -298,6 +298,8 @@ module _ (c : Config) (d : ℕ) (key : List ℕ) where
   part_alike m head (AppSKeyReq request) = asked_alike m head (AppSKeyReq request)
   part_alike m head (HomeNSReq request) = asked_alike m head (HomeNSReq request)
   part_alike m head (UplinkReq request) = heard_alike m head (UplinkReq request)
+  part_alike m head (XmitDataReq request) = heard_alike m head (XmitDataReq request)
+  part_alike m head (XmitUplink request) = asked_alike m head (XmitUplink request)
   part_alike m head Unknown = asked_alike m head Unknown
 
   judged_alike : (m : Machine) (head : Head) (request : Request) (left right : Option (List ℕ)) (asked : Bool) → BothKept c d left right
@@ -307,14 +309,14 @@ module _ (c : Config) (d : ℕ) (key : List ℕ) where
       let c' = with_app_key d key c in
       let a = ap not (known_same head.sender) in
       let b = ap not (reaches_same (receiver_of head.message_type) head.receiver) in
-      let e = ap not (may_send_same (sender_of head.message_type) head.sender) in
+      let e = ap not (may_send_same (sender_of request) head.sender) in
       let rest = drop 5 (order c (nwk_at keys) m head request left asked) in
       let rest' = drop 5 (order c' (nwk_at keys') m head request right asked) in
-      front_both c d head (wrong_sender c head) (wrong_sender c' head) (wrong_receiver c head) (wrong_receiver c' head) (wrong_type c head) (wrong_type c' head) left right asked rest rest'
+      front_both c d head (wrong_sender c head) (wrong_sender c' head) (wrong_receiver c head) (wrong_receiver c' head) (wrong_type c head request) (wrong_type c' head request) left right asked rest rest'
       (success_of c (nwk_at keys) (app_at keys) m head request) (success_of c' (nwk_at keys') (app_at keys') m head request) a b e both
       (λ known here may.
-      let one = sym (parts_decide c (nwk_at keys) (app_at keys) m head request known here may) ∙ passed head (wrong_sender c head) (wrong_receiver c head) (wrong_type c head) rest (success_of c (nwk_at keys) (app_at keys) m head request) known here may in
-      let two = sym (parts_decide c' (nwk_at keys') (app_at keys') m head request (a ∙ known) (b ∙ here) (e ∙ may)) ∙ passed head (wrong_sender c' head) (wrong_receiver c' head) (wrong_type c' head) rest' (success_of c' (nwk_at keys') (app_at keys') m head request) (a ∙ known) (b ∙ here) (e ∙ may) in
+      let one = sym (parts_decide c (nwk_at keys) (app_at keys) m head request known here may) ∙ passed head (wrong_sender c head) (wrong_receiver c head) (wrong_type c head request) rest (success_of c (nwk_at keys) (app_at keys) m head request) known here may in
+      let two = sym (parts_decide c' (nwk_at keys') (app_at keys') m head request (a ∙ known) (b ∙ here) (e ∙ may)) ∙ passed head (wrong_sender c' head) (wrong_receiver c' head) (wrong_type c' head request) rest' (success_of c' (nwk_at keys') (app_at keys') m head request) (a ∙ known) (b ∙ here) (e ∙ may) in
       let left_part = by_part c (nwk_at keys) (app_at keys) m head request in
       let right_rest = by_order (said head None) rest' (success_of c' (nwk_at keys') (app_at keys') m head request) in
       subst (λ (x : JsDecision). JudgedAlike c d x right_rest) one (subst (λ (y : JsDecision). JudgedAlike c d left_part y) two (part_alike m head request)))

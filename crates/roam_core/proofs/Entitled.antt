@@ -9,20 +9,20 @@ use Rattle.wire_ids.specs.declared.keys.RootKeys.{RootKeys}
 use Rattle.wire_ids.specs.declared.party.Sender.{Sender}
 use Rattle.key_vault.specs.Table.{app_at, nwk_at}
 use Rattle.agreements.specs.Walk.{Config}
-use Rattle.backend_json.proofs.KeysWritten.{headless_written, none_written, uplink_written}
+use Rattle.backend_json.proofs.KeysWritten.{headless_written, none_written, uplink_written, xmit_data_written}
 use Rattle.backend_json.specs.Answers.{text_of}
 use Rattle.backend_json.specs.Messages.{message_of}
 use Rattle.backend_json.specs.declared.answer.Answer.{Answer}
 use Rattle.backend_json.specs.declared.answer.Answer.TheVariants.{Headed, Headless}
 use Rattle.backend_json.specs.declared.answer.Outcome.{Outcome}
-use Rattle.backend_json.specs.declared.answer.Outcome.TheVariants.{AppSKeyAns, HomeNSAns, JoinAns, Refused, RejoinAns, UplinkAns}
+use Rattle.backend_json.specs.declared.answer.Outcome.TheVariants.{AppSKeyAns, HomeNSAns, JoinAns, Refused, RejoinAns, UplinkAns, XmitDataAns}
 use Rattle.backend_json.specs.declared.head.Head.{Head}
 use Rattle.backend_json.specs.declared.message.Bad.{Bad}
 use Rattle.backend_json.specs.declared.message.Bad.TheVariants as bad
 use Rattle.backend_json.specs.declared.message.Message.{Message}
 use Rattle.backend_json.specs.declared.refusal.Refusal.TheVariants as cause
 use Rattle.backend_json.specs.declared.request.Request.{Request}
-use Rattle.backend_json.specs.declared.request.Request.TheVariants.{AppSKeyReq, HomeNSReq, JoinReq, RejoinReq, UplinkReq, Unknown}
+use Rattle.backend_json.specs.declared.request.Request.TheVariants.{AppSKeyReq, HomeNSReq, JoinReq, RejoinReq, UplinkReq, Unknown, XmitDataReq, XmitUplink}
 use Rattle.backend_json.specs.declared.session.SessionKeyId.{SessionKeyId}
 use Rattle.entitlement.specs.declared.roles.AnswerKind.{AnswerKind}
 use Rattle.entries.specs.declared.change.Change.{Change}
@@ -70,6 +70,7 @@ agrees_entered c keys m at now (Headed head (RejoinAns members)) k = keys_entere
 agrees_entered c keys m at now (Headed head (AppSKeyAns members)) k = (keys_entered c keys m at now _ 0 head (AppSKeyAns members) members.session_key_id k.0, k.1)
 agrees_entered c keys m at now (Headed head (HomeNSAns members)) k = k
 agrees_entered c keys m at now (Headed head (UplinkAns members)) k = k
+agrees_entered c keys m at now (Headed head (XmitDataAns members)) k = k
 
 -- ---- what is decided anew
 
@@ -86,14 +87,14 @@ agrees_as c keys sender m now (decision.Reply reply) f = f None
 agrees_as c keys sender m now (decision.Accept reply change) f = f
 agrees_as c keys sender m now (decision.AskPeer peer question change) f = tt
 
--- an answer to a gateway has no keys
+-- an answer of the home network to a gateway or to a payload has no keys
 heard_agrees : (c : Config) (keys : List RootKeys) (m : Machine) (now : ℕ) (head : Head) (request : Request) → AgreesAs c keys head.sender m now (ns_decided c (nwk_at keys) m head request)
 heard_agrees c keys m now head request = ns.by_cases c (nwk_at keys) m head (AgreesAs c keys head.sender m now) (record {
   refusal = λ why. none_written head why;
   activation = λ request up f own is. λ who. uplink_written head _;
   duplicate = λ s. uplink_written head _;
   uplink = λ request s v is. λ who. uplink_written head _;
-}) request
+}) (λ request f is. λ who. xmit_data_written head _) request
 
 part_agrees : (c : Config) (keys : List RootKeys) (m : Machine) (now : ℕ) (head : Head) (request : Request) → AreValid c → is_known c head.sender ≡ true → AgreesAs c keys head.sender m now (by_part c (nwk_at keys) (app_at keys) m head request)
 part_agrees c keys m now head request valid known = by request
@@ -109,6 +110,8 @@ part_agrees c keys m now head request valid known = by request
     by (AppSKeyReq request) = decided_agrees (AppSKeyReq request)
     by (HomeNSReq request) = decided_agrees (HomeNSReq request)
     by (UplinkReq request) = heard_agrees c keys m now head (UplinkReq request)
+    by (XmitDataReq request) = heard_agrees c keys m now head (XmitDataReq request)
+    by (XmitUplink request) = decided_agrees (XmitUplink request)
     by Unknown = decided_agrees Unknown
 
 judged_agrees : (c : Config) (keys : List RootKeys) (m : Machine) (now : ℕ) (head : Head) (request : Request) (kept : Option (List ℕ)) (asked : Bool) → AreValid c → AgreesAs c keys head.sender m now (judged_at c (nwk_at keys) (app_at keys) m head request kept asked)
@@ -295,7 +298,7 @@ module _ (c : Config) (keys : List RootKeys) (valid : AreValid c) where
         activation = λ request up f own is. tt;
         duplicate = λ s. tt;
         uplink = λ request s v is. tt;
-      }) request
+      }) (λ request f is. tt) request
 
       by : (request : Request) → IsKeptAs history (by_part c (nwk_at keys) (app_at keys) m head request)
       by (JoinReq request) = decided_kept (JoinReq request)
@@ -303,6 +306,8 @@ module _ (c : Config) (keys : List RootKeys) (valid : AreValid c) where
       by (AppSKeyReq request) = decided_kept (AppSKeyReq request)
       by (HomeNSReq request) = decided_kept (HomeNSReq request)
       by (UplinkReq request) = heard_kept (UplinkReq request)
+      by (XmitDataReq request) = heard_kept (XmitDataReq request)
+      by (XmitUplink request) = decided_kept (XmitUplink request)
       by Unknown = decided_kept Unknown
 
   judged_kept : (history : List Entry) (m : Machine) (head : Head) (request : Request) (body : List ℕ) (kept : List KeptAnswers) (asked : Bool) → AllKept (WasEntitled c keys history) kept

@@ -1,5 +1,5 @@
 -- The entry that a line makes fits.
-use Rattle.std.proofs.Common.{◌≡◌, ℕ, List, Bool, true, false, Option, Some, None, refl, sym, ap, ◌∙◌, subst}
+use Rattle.std.proofs.Common.{◌≡◌, ℕ, ◌<◌, ◌^◌, List, Bool, true, false, Option, Some, None, refl, sym, ap, ◌∙◌, subst}
 use Rattle.std.specs.List.{list_any}
 use Rattle.std.specs.Prelude.{IsTrue, nat_lt, slice_get}
 use Rattle.wire_ids.specs.Lists.{at_place, holds_of}
@@ -10,7 +10,9 @@ use Rattle.agreements.specs.Walk.{Config}
 use Rattle.backend_json.specs.declared.head.Head.{Head}
 use Rattle.backend_json.specs.declared.request.JoinRequest.{JoinRequest}
 use Rattle.backend_json.specs.declared.request.Request.{Request}
-use Rattle.backend_json.specs.declared.request.Request.TheVariants.{AppSKeyReq, HomeNSReq, JoinReq, RejoinReq, UplinkReq, Unknown}
+use Rattle.backend_json.specs.declared.request.Request.TheVariants.{AppSKeyReq, HomeNSReq, JoinReq, RejoinReq, UplinkReq, Unknown, XmitDataReq, XmitUplink}
+use Rattle.backend_json.specs.declared.request.UplinkRequest.{UplinkRequest}
+use Rattle.backend_json.specs.declared.request.XmitDataRequest.{XmitDataRequest}
 use Rattle.entries.specs.declared.change.Change.{Change}
 use Rattle.entries.specs.declared.entry.Entry.{Entry}
 use Rattle.entry_codec.specs.Fits.{fits, fits_change, fits_event, names_there}
@@ -31,14 +33,16 @@ use Rattle.js_core.specs.Replies.{JsDecision, accepted, js_decided}
 use Rattle.js_core.specs.Steps.{is_not_above, next_seed, seed_place}
 use Rattle.js_core.specs.declared.activation.Activation.{Activation}
 use Rattle.js_core.proofs.Cases.{IsJoin, by_cases, stands_at}
-use Rattle.ns_core.specs.Replies.{ns_decided}
+use Rattle.ns_core.specs.Payloads.{payload_decided}
+use Rattle.ns_core.specs.Replies.{ns_decided, uplink_decided}
 use Rattle.ns_core.proofs.Cases as ns
 use Rattle.roam_core.specs.Decided.{by_part, entry_in, judged_at}
 use Rattle.roam_core.specs.Desk.{Desk}
 use Rattle.roam_core.specs.Entering.{CanEnter, EntriesFit}
 use Rattle.roam_core.specs.Lines.{reaction}
-use Rattle.roam_core.proofs.Hearing.{AreNamed, activation_fits, named_lapsed, names_of_state, uplink_fits}
+use Rattle.roam_core.proofs.Hearing.{AreNamed, activation_fits, named_lapsed, names_of_state, payload_fits, uplink_fits}
 use Rattle.roam_core.proofs.Outcomes as outcome
+use Rattle.roam_core.proofs.Ranges.{InRange}
 use Rattle.roam_core.proofs.Stepping.{above, next_above, none_valid, used_fits}
 use Rattle.roam_core.proofs.Waking.{wake_unread}
 
@@ -99,27 +103,34 @@ decided_enters c nwk app m head request known =
     entering_of c head.sender m (js_decided c nwk app m head request) known
     (λ who. subst (λ (d : JsDecision). Fits head.sender (wake who m) d) (wake_unread c nwk app who m head request) (decided_fits c nwk app (wake who m) head request))
 
-heard_enters : (c : Config) (nwk : ℕ → List ℕ) (m : Machine) (head : Head) (request : Request) → AreNamed c m → IsSound m → is_known c head.sender ≡ true → Entering c head.sender m (ns_decided c nwk m head request)
-heard_enters c nwk m head request names sound known = ns.by_cases c nwk m head (Entering c head.sender m) (record {
+heard_enters : (c : Config) (nwk : ℕ → List ℕ) (m : Machine) (head : Head) (request : UplinkRequest) → AreNamed c m → IsSound m → is_known c head.sender ≡ true → Entering c head.sender m (uplink_decided c nwk m head request)
+heard_enters c nwk m head request names sound known = ns.uplink_case c nwk m head (Entering c head.sender m) (record {
   refusal = λ why. tt;
   activation = λ asked up f own is. record { known = known; fits = activation_fits c nwk m head.sender asked up f own is };
   duplicate = λ s. tt;
   uplink = λ asked s v is. record { known = known; fits = uplink_fits c nwk m head.sender asked s v names sound is };
 }) request
 
-part_enters : (c : Config) (nwk app : ℕ → List ℕ) (m : Machine) (head : Head) (request : Request) → AreNamed c m → IsSound m → is_known c head.sender ≡ true → Entering c head.sender m (by_part c nwk app m head request)
-part_enters c nwk app m head (JoinReq request) names sound known = decided_enters c nwk app m head (JoinReq request) known
-part_enters c nwk app m head (RejoinReq request) names sound known = decided_enters c nwk app m head (RejoinReq request) known
-part_enters c nwk app m head (AppSKeyReq request) names sound known = decided_enters c nwk app m head (AppSKeyReq request) known
-part_enters c nwk app m head (HomeNSReq request) names sound known = decided_enters c nwk app m head (HomeNSReq request) known
-part_enters c nwk app m head (UplinkReq request) names sound known = heard_enters c nwk m head (UplinkReq request) names sound known
-part_enters c nwk app m head Unknown names sound known = decided_enters c nwk app m head Unknown known
+payload_enters : (c : Config) (m : Machine) (head : Head) (request : XmitDataRequest) → IsSound m → is_known c head.sender ≡ true → request.f_cnt_down < 2 ^ 32 → Entering c head.sender m (payload_decided c m head request)
+payload_enters c m head request sound known range =
+    ns.payload_case c m head (Entering c head.sender m) (λ why. tt) request (λ f is. record { known = known; fits = payload_fits c m head request f sound range is })
 
-judged_enters : (c : Config) (nwk app : ℕ → List ℕ) (m : Machine) (head : Head) (request : Request) (kept : Option (List ℕ)) (asked : Bool) → AreNamed c m → IsSound m → Entering c head.sender m (judged_at c nwk app m head request kept asked)
-judged_enters c nwk app m head request kept asked names sound = outcome.judged_is c nwk app m head request (Entering c head.sender m) kept asked (record {
+part_enters : (c : Config) (nwk app : ℕ → List ℕ) (m : Machine) (head : Head) (request : Request) → InRange request → AreNamed c m → IsSound m → is_known c head.sender ≡ true → Entering c head.sender m (by_part c nwk app m head request)
+unfolding ns_decided
+part_enters c nwk app m head (JoinReq request) range names sound known = decided_enters c nwk app m head (JoinReq request) known
+part_enters c nwk app m head (RejoinReq request) range names sound known = decided_enters c nwk app m head (RejoinReq request) known
+part_enters c nwk app m head (AppSKeyReq request) range names sound known = decided_enters c nwk app m head (AppSKeyReq request) known
+part_enters c nwk app m head (HomeNSReq request) range names sound known = decided_enters c nwk app m head (HomeNSReq request) known
+part_enters c nwk app m head (UplinkReq request) range names sound known = heard_enters c nwk m head request names sound known
+part_enters c nwk app m head (XmitDataReq request) range names sound known = payload_enters c m head request sound known range
+part_enters c nwk app m head (XmitUplink request) range names sound known = decided_enters c nwk app m head (XmitUplink request) known
+part_enters c nwk app m head Unknown range names sound known = decided_enters c nwk app m head Unknown known
+
+judged_enters : (c : Config) (nwk app : ℕ → List ℕ) (m : Machine) (head : Head) (request : Request) (kept : Option (List ℕ)) (asked : Bool) → InRange request → AreNamed c m → IsSound m → Entering c head.sender m (judged_at c nwk app m head request kept asked)
+judged_enters c nwk app m head request kept asked range names sound = outcome.judged_is c nwk app m head request (Entering c head.sender m) kept asked (record {
   refusal = λ why. tt;
   repeat = λ text is. tt;
-  decides = part_enters c nwk app m head request names sound;
+  decides = part_enters c nwk app m head request range names sound;
 })
 
 -- ---- the entry
@@ -139,5 +150,5 @@ entries_fit c keys s body now e places sound can is_made =
     let a = outcome.accepted c keys s body now e is_made in
     let m = lapse now s.now in
     let names = named_lapsed now c s.now (names_of_state c s.now places can.state) in
-    let enters : Enters c a.head.sender m a.change = subst (Entering c a.head.sender m) a.accepts (judged_enters c (nwk_at keys) (app_at keys) m a.head a.request (kept_answer a.head.sender body s.kept) (is_asked body m) names (sound_lapsed now s.now sound)) in
+    let enters : Enters c a.head.sender m a.change = subst (Entering c a.head.sender m) a.accepts (judged_enters c (nwk_at keys) (app_at keys) m a.head a.request (kept_answer a.head.sender body s.kept) (is_asked body m) a.in_range names (sound_lapsed now s.now sound)) in
     subst (λ (x : Entry). IsTrue (fits s.now x)) (sym a.is_entry) (entry_fits c s now a.head body a.answer a.change can enters)

@@ -1,28 +1,35 @@
--- The entry of a gateway's request fits.
-use Rattle.std.proofs.Common.{◌≡◌, ℕ, zero, suc, ◌+◌, ◌==◌, List, [], ◌∷◌, length, map, Bool, true, false, cond, not, ◌||◌, Option, Some, None, option_map, option_and_then, is_some, refl, sym, ap, ◌∙◌, subst, arith, eqb-true}
+-- The entry of what the home network decides fits.
+use Rattle.std.proofs.Common.{◌≡◌, ℕ, zero, suc, ◌+◌, ◌==◌, ◌<◌, ◌≤◌, ◌^◌, List, [], ◌∷◌, length, map, Bool, true, false, cond, not, ◌||◌, Option, Some, None, option_map, option_and_then, is_some, refl, sym, ap, ◌∙◌, subst, arith, eq-eqb, eqb-true, inl, inr, le-leb, lt-ltb}
+use Rattle.std.proofs.lemmas.Bool.{cases_lt, false≢true}
 use Rattle.std.proofs.lemmas.Option.{get_or_from_slice_get, slice_get_within}
 use Rattle.std.specs.List.{AllByRecursion, list_any}
-use Rattle.std.specs.Prelude.{IsTrue, find, nat_le, position, slice_get}
+use Rattle.std.specs.Prelude.{◌&&◌, IsTrue, find, nat_le, nat_lt, position, slice_get}
 use Rattle.wire_ids.specs.Addresses.{base_of, room_of}
 use Rattle.wire_ids.specs.Lists.{at_place, holds_of}
 use Rattle.wire_ids.specs.declared.address.DevAddr.{DevAddr}
 use Rattle.wire_ids.specs.declared.eui.Eui.{Eui}
 use Rattle.wire_ids.specs.declared.party.Sender.{Sender}
+use Rattle.contexts.specs.Queue.{first_in}
+use Rattle.contexts.specs.Sound.{IsSoundSlot}
 use Rattle.contexts.specs.declared.context.Context.{Context}
+use Rattle.contexts.specs.declared.context.Item.{Item}
 use Rattle.contexts.specs.declared.slots.Slots.{Slots}
 use Rattle.data_frames.specs.Counts.{IsAbove}
 use Rattle.data_frames.specs.DataForms.{data_fault}
 use Rattle.agreements.specs.LookUps.{AreFound as HasPlaces}
 use Rattle.agreements.specs.Walk.{Config}
 use Rattle.agreements.specs.declared.rows.DeviceRow.{DeviceRow}
+use Rattle.backend_json.specs.declared.head.Head.{Head}
 use Rattle.backend_json.specs.declared.request.UplinkRequest.{UplinkRequest}
+use Rattle.backend_json.specs.declared.request.XmitDataRequest.{XmitDataRequest}
+use Rattle.entries.specs.declared.change.Downlink.{Downlink}
 use Rattle.entries.specs.declared.change.Downlink.TheVariants as down
 use Rattle.entries.specs.declared.change.OwnContext.{OwnContext}
 use Rattle.entries.specs.declared.used_seed.UsedSeed.{UsedSeed}
 use Rattle.entries.specs.declared.used_seed.UsedSeed.TheVariants.{Rejoin0, Rejoin1, Rejoin2}
 use Rattle.entry_codec.specs.Devices.{in_slots}
 use Rattle.entry_codec.specs.Empty.{empty}
-use Rattle.entry_codec.specs.Fits.{fits_change, fits_slots, fits_used, is_above}
+use Rattle.entry_codec.specs.Fits.{can_answer, can_queue, fits_change, fits_slots, fits_used, is_above, takes}
 use Rattle.entry_codec.specs.Free.{free_address, free_from, is_number_taken}
 use Rattle.entry_codec.specs.Index.{is_number, device_number, names, row_number}
 use Rattle.entry_codec.specs.LookUps.{at_home, device_slots, is_taken, live_context, slots_of, visitor_of, visitor_slots}
@@ -42,12 +49,14 @@ use Rattle.join_frames.specs.declared.join_up.JoinUp.TheVariants.{Join, Rejoin02
 use Rattle.js_core.specs.Found.{Found}
 use Rattle.js_core.specs.Steps.{change_of, is_not_above, next_seed, rejoin_seed, seed_place, step_of, used_seed}
 use Rattle.js_core.proofs.Cases.{stands_at}
+use Rattle.ns_core.specs.Downlinks.{down_of, fits_at, has_fitting_item, has_number, rx1_rate, wants_downlink}
 use Rattle.ns_core.specs.Frames.{addr_of, is_data}
 use Rattle.ns_core.specs.Own.{own_address, own_context, own_with, waking}
+use Rattle.ns_core.specs.Payloads.{has_8, is_under, is_used, queue_of}
 use Rattle.ns_core.specs.Replies.{up_of}
 use Rattle.ns_core.specs.Speakers.{Speaker, context_at, count_of, in_slot, keys_of, name_of, speaker_at, speaker_of, speaker_with, valid_under}
 use Rattle.ns_core.specs.declared.valid.Count.{Count}
-use Rattle.ns_core.proofs.Cases.{IsActivation, IsUplink}
+use Rattle.ns_core.proofs.Cases.{IsActivation, IsPayload, IsUplink}
 use Rattle.ns_core.proofs.Counting.{counts_above}
 use Rattle.roam_core.specs.Desk.{IsStateOf, Named, named}
 use Rattle.roam_core.proofs.Stepping.{above, next_above, none_valid, used_fits}
@@ -284,10 +293,25 @@ above_last : (n : ℕ) (last : Option ℕ) → IsAbove last n → is_above n las
 above_last n None h = refl
 above_last n (Some last) h = grind (arith, h)
 
-hears : (pending : Bool) (count : ℕ) (slots : Slots) (context : Context) → in_slot pending slots ≡ Some context → IsAbove context.last count → fits_slots pending count down.Nothing slots ≡ true
+has_first : (rate : ℕ) (items : List Item) → holds_of (fits_at rate) (first_in items) ≡ true → nat_lt 0 (length items) ≡ true
+has_first rate [] e = absurd cc
+has_first rate (item ∷ items) e = refl
+
+-- the downlink that answers is there: the first item where it fits, and the number where one is left
+answers : (c : Context) (frame : List ℕ) (rate : ℕ) → can_answer (down_of c frame rate) c ≡ true
+unfolding down_of
+answers c frame rate = by (has_fitting_item c rate) (wants_downlink frame) (has_number c) refl refl
+  where
+    by : (item wants number : Bool) → has_fitting_item c rate ≡ item → has_number c ≡ number → can_answer (cond item down.FirstItem (cond (wants && number) down.Empty down.Nothing)) c ≡ true
+    by true wants number is left = has_first (rx1_rate c.radio rate) c.queue.items is
+    by false true true is left = left
+    by false true false is left = refl
+    by false false number is left = refl
+
+hears : (pending : Bool) (count : ℕ) (down : Downlink) (slots : Slots) (context : Context) → in_slot pending slots ≡ Some context → IsAbove context.last count → can_answer down context ≡ true → fits_slots pending count down slots ≡ true
 unfolding fits_slots
-hears true count slots context e above = rw (e, above_last count context.last above) refl
-hears false count slots context e above = rw (e, above_last count context.last above) refl
+hears true count down slots context e above can = rw (e, above_last count context.last above, can) refl
+hears false count down slots context e above can = rw (e, above_last count context.last above, can) refl
 
 sized_of : (frame : List ℕ) → is_data frame ≡ true → nat_le (length frame) 255 ≡ true
 unfolding is_data data_fault
@@ -312,5 +336,43 @@ unfolding fits_change
 uplink_fits c nwk m sender request s v names sound is =
     let speaks = is_speaker c m (addr_of request.phy_payload) s is.is_speaker in
     let who = holder_found c m s.holder s.dev_eui speaks.slots s.pending s.context names sound speaks.name speaks.is_slots speaks.is_context in
-    let hear = hears s.pending v.count speaks.slots s.context speaks.is_context (count_above nwk request.phy_payload request.data_rate s v is.is_count) in
+    let can = answers s.context request.phy_payload request.data_rate in
+    let down = down_of s.context request.phy_payload request.data_rate in
+    let hear = hears s.pending v.count down speaks.slots s.context speaks.is_context (count_above nwk request.phy_payload request.data_rate s v is.is_count) can in
     rw (sized_of request.phy_payload is.is_up, who, speaks.is_slots, hear) refl
+
+-- ---- the payload
+
+room_for : (n : ℕ) → n ≤ 8 → (n == 8) ≡ false → nat_lt n 8 ≡ true
+room_for n few other =
+    elim (cases_lt n 8) [
+      | inl less ↦ lt-ltb n 8 less
+      | inr most ↦
+          let same : n ≡ 8 = omega (arith, few, most) in
+          absurd (false≢true (sym other ∙ eq-eqb n 8 same))
+    ]
+
+below_next : (n next : ℕ) → nat_lt n next ≡ false → nat_le next n ≡ true
+below_next n next h =
+    elim (cases_lt n next) [
+      | inl less ↦ absurd (false≢true (sym h ∙ lt-ltb n next less))
+      | inr most ↦ le-leb next n most
+    ]
+
+few_bytes : (n : ℕ) → nat_lt 242 n ≡ false → nat_le n 242 ≡ true
+few_bytes n h = below_next 242 n h
+
+takes_item : (request : XmitDataRequest) (active : Option Context) → IsSoundSlot active → request.f_cnt_down < 2 ^ 32 → not (holds_of (is_under request) active) ≡ false
+    → holds_of (is_used request) active ≡ false → holds_of has_8 active ≡ false → holds_of (takes request.f_cnt_down) active ≡ true
+takes_item request None sound range under next room = absurd cc
+takes_item request (Some c) sound range under next room =
+    rw (lt-ltb request.f_cnt_down (2 ^ 32) range, below_next request.f_cnt_down c.next_a next, room_for (length c.queue.items) sound.few room) refl
+
+pub payload_fits : (c : Config) (m : Machine) (head : Head) (request : XmitDataRequest) (f : Found) → IsSound m → request.f_cnt_down < 2 ^ 32 → IsPayload c m head request f
+    → (let change = queue_of request f.device in IsTrue (fits_change head.sender change (wake (change_wakes change m) m)))
+unfolding fits_change can_queue
+payload_fits c m head request f sound range is =
+    let there = (stands_at c m request.dev_eui f is.is_found).is_kept in
+    let device = all_at (IsSoundDevice m.senders) m.devices f.device f.kept sound.devices there in
+    let takes = takes_item request f.kept.slots.active device.slots.sound.active range is.session is.next is.room in
+    rw (few_bytes (length request.frm_payload) is.few, there, takes) refl

@@ -11,7 +11,7 @@ use Rattle.backend_json.specs.declared.message.Bad.{Bad}
 use Rattle.backend_json.specs.declared.message.Message.{Message}
 use Rattle.backend_json.specs.declared.request.JoinRequest.{JoinRequest}
 use Rattle.backend_json.specs.declared.request.Request.{Request}
-use Rattle.backend_json.specs.declared.request.Request.TheVariants.{AppSKeyReq, HomeNSReq, JoinReq, RejoinReq, UplinkReq, Unknown}
+use Rattle.backend_json.specs.declared.request.Request.TheVariants.{AppSKeyReq, HomeNSReq, JoinReq, RejoinReq, UplinkReq, Unknown, XmitDataReq, XmitUplink}
 use Rattle.entry_codec.specs.Kept.{kept_answer}
 use Rattle.entry_codec.specs.LookUps.{is_asked}
 use Rattle.entry_codec.specs.Machine.{Machine, lapse}
@@ -25,46 +25,48 @@ use Rattle.js_core.specs.declared.activation.Activation.TheVariants as by
 use Rattle.js_core.proofs.Cases.{by_cases}
 use Rattle.roam_core.specs.Decided.{by_part, decided, judged_at, with_entry}
 use Rattle.roam_core.specs.Desk.{Desk, desk_with}
-use Rattle.roam_core.specs.Entering.{RepliesKeep, enters, gives_session}
+use Rattle.roam_core.specs.Entering.{RepliesKeep, enters, tells_change}
 use Rattle.roam_core.specs.Lines.{decided_of, line_decided, reaction}
 use Rattle.roam_core.proofs.Outcomes.{judged_is}
 
--- an answer that comes with a change gives a session, or counts an uplink
-abbrev GivesSession : JsDecision → Type 0
-GivesSession (decision.Repeat text) = Unit {0}
-GivesSession (decision.Reply answer) = Unit {0}
-GivesSession (decision.Accept answer change) = gives_session answer ≡ true
-GivesSession (decision.AskPeer peer question change) = Unit {0}
+-- an answer that comes with a change gives a session, counts an uplink, or takes a payload
+abbrev TellsChange : JsDecision → Type 0
+TellsChange (decision.Repeat text) = Unit {0}
+TellsChange (decision.Reply answer) = Unit {0}
+TellsChange (decision.Accept answer change) = tells_change answer ≡ true
+TellsChange (decision.AskPeer peer question change) = Unit {0}
 
-gives-accepted : (c : Config) (nwk app : ℕ → List ℕ) (activation : Activation) (head : Head) (request : JoinRequest) (up : JoinUp) (f : Found) → GivesSession (accepted c nwk app activation head request up f)
+gives-accepted : (c : Config) (nwk app : ℕ → List ℕ) (activation : Activation) (head : Head) (request : JoinRequest) (up : JoinUp) (f : Found) → TellsChange (accepted c nwk app activation head request up f)
 gives-accepted c nwk app by.Join head request up f = refl
 gives-accepted c nwk app by.Rejoin head request up f = refl
 
-gives-decided : (c : Config) (nwk app : ℕ → List ℕ) (m : Machine) (head : Head) (request : Request) → GivesSession (js_decided c nwk app m head request)
-gives-decided c nwk app m head request = by_cases c nwk app app m head (λ left right. GivesSession left) (record {
+gives-decided : (c : Config) (nwk app : ℕ → List ℕ) (m : Machine) (head : Head) (request : Request) → TellsChange (js_decided c nwk app m head request)
+gives-decided c nwk app m head request = by_cases c nwk app app m head (λ left right. TellsChange left) (record {
   refusal = λ why. tt;
   join = λ activation join up f is. gives-accepted c nwk app activation head join up f;
   app_s_key = λ asked f seed is. tt;
   home_ns = λ f. tt;
 }) request
 
-gives-heard : (c : Config) (nwk : ℕ → List ℕ) (m : Machine) (head : Head) (request : Request) → GivesSession (ns_decided c nwk m head request)
-gives-heard c nwk m head request = ns.by_cases c nwk m head GivesSession (record {
+gives-heard : (c : Config) (nwk : ℕ → List ℕ) (m : Machine) (head : Head) (request : Request) → TellsChange (ns_decided c nwk m head request)
+gives-heard c nwk m head request = ns.by_cases c nwk m head TellsChange (record {
   refusal = λ why. tt;
   activation = λ request up f own is. refl;
   duplicate = λ s. tt;
   uplink = λ request s v is. refl;
-}) request
+}) (λ request f is. refl) request
 
-gives-part : (c : Config) (nwk app : ℕ → List ℕ) (m : Machine) (head : Head) (request : Request) → GivesSession (by_part c nwk app m head request)
+gives-part : (c : Config) (nwk app : ℕ → List ℕ) (m : Machine) (head : Head) (request : Request) → TellsChange (by_part c nwk app m head request)
 gives-part c nwk app m head (JoinReq request) = gives-decided c nwk app m head (JoinReq request)
 gives-part c nwk app m head (RejoinReq request) = gives-decided c nwk app m head (RejoinReq request)
 gives-part c nwk app m head (AppSKeyReq request) = gives-decided c nwk app m head (AppSKeyReq request)
 gives-part c nwk app m head (HomeNSReq request) = gives-decided c nwk app m head (HomeNSReq request)
 gives-part c nwk app m head (UplinkReq request) = gives-heard c nwk m head (UplinkReq request)
+gives-part c nwk app m head (XmitDataReq request) = gives-heard c nwk m head (XmitDataReq request)
+gives-part c nwk app m head (XmitUplink request) = gives-decided c nwk app m head (XmitUplink request)
 gives-part c nwk app m head Unknown = gives-decided c nwk app m head Unknown
 
-kept_by_entry : (head : Head) (body : List ℕ) (now : ℕ) (s : Desk) (d : JsDecision) → GivesSession d → enters (with_entry head body now d) ≡ false → desk_with s (entry_of (with_entry head body now d)) ≡ s
+kept_by_entry : (head : Head) (body : List ℕ) (now : ℕ) (s : Desk) (d : JsDecision) → TellsChange d → enters (with_entry head body now d) ≡ false → desk_with s (entry_of (with_entry head body now d)) ≡ s
 kept_by_entry head body now s (decision.Repeat text) g e = refl
 kept_by_entry head body now s (decision.Reply answer) g e = refl
 kept_by_entry head body now s (decision.Accept answer change) g e = cc
@@ -81,7 +83,7 @@ keeps c keys s body now (Ok message) e =
     let kept = kept_answer head.sender body s.kept in
     let asked = is_asked body m in
     kept_by_entry head body now s (judged_at c nwk app m head message.request kept asked)
-    (judged_is c nwk app m head message.request GivesSession kept asked (record {
+    (judged_is c nwk app m head message.request TellsChange kept asked (record {
       refusal = λ why. tt;
       repeat = λ text is. tt;
       decides = λ known. gives-part c nwk app m head message.request;

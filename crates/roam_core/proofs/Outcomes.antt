@@ -27,6 +27,7 @@ use Rattle.roam_core.specs.Lines.{decided_of, line_decided, reaction}
 use Rattle.roam_core.specs.Order.{Kept, Line, by_order, order, wrong_receiver, wrong_sender, wrong_type}
 use Rattle.roam_core.specs.Order.{refuses as refuses_by}
 use Rattle.roam_core.proofs.Parts.{parts_decide}
+use Rattle.roam_core.proofs.Ranges.{InRange, message_read}
 
 not_not : (b : Bool) → not b ≡ false → b ≡ true
 not_not true h = refl
@@ -65,13 +66,13 @@ unfolding order
 judged_is c nwk app m head request P kept asked holds =
     let rest = drop 5 (order c nwk m head request kept asked) in
     let success = success_of c nwk app m head request in
-    front_is head P (wrong_sender c head) (wrong_receiver c head) (wrong_type c head) kept asked rest success holds.refusal holds.repeat
+    front_is head P (wrong_sender c head) (wrong_receiver c head) (wrong_type c head request) kept asked rest success holds.refusal holds.repeat
     (λ known here may.
-    let same = sym (parts_decide c nwk app m head request known here may) ∙ passed head (wrong_sender c head) (wrong_receiver c head) (wrong_type c head) rest success known here may in
+    let same = sym (parts_decide c nwk app m head request known here may) ∙ passed head (wrong_sender c head) (wrong_receiver c head) (wrong_type c head request) rest success known here may in
     subst P same (holds.decides (not_not (is_known c head.sender) known)))
 
 -- where nothing stands before the frame's size, what its part makes of it
-pub judged_part : (c : Config) (nwk app : ℕ → List ℕ) (m : Machine) (head : Head) (request : Request) (kept : Option (List ℕ)) (asked : Bool) → wrong_sender c head ≡ false → wrong_receiver c head ≡ false → wrong_type c head ≡ false
+pub judged_part : (c : Config) (nwk app : ℕ → List ℕ) (m : Machine) (head : Head) (request : Request) (kept : Option (List ℕ)) (asked : Bool) → wrong_sender c head ≡ false → wrong_receiver c head ≡ false → wrong_type c head request ≡ false
     → kept ≡ None → asked ≡ false → judged_at c nwk app m head request kept asked ≡ by_part c nwk app m head request
 judged_part c nwk app m head request None false known here may none free = parts_decide c nwk app m head request known here may
 judged_part c nwk app m head request None true known here may none free = absurd cc
@@ -100,13 +101,14 @@ pub record Accepted (c : Config) (keys : List RootKeys) (s : Desk) (body : List 
   pub change : Change
   pub is_entry : e ≡ entry_in head body now answer change
   pub is_decision : line_decided c keys s body now ≡ decision.Accept answer e
+  pub in_range : InRange request
   pub accepts : judged_at c (nwk_at keys) (app_at keys) (lapse now s.now) head request (kept_answer head.sender body s.kept) (is_asked body (lapse now s.now)) ≡ decision.Accept answer change
 
-accepted_from : (c : Config) (keys : List RootKeys) (s : Desk) (body : List ℕ) (now : ℕ) (e : Entry) (r : Result Message Bad) → line_decided c keys s body now ≡ decided_of c (nwk_at keys) (app_at keys) s body now r
+accepted_from : (c : Config) (keys : List RootKeys) (s : Desk) (body : List ℕ) (now : ℕ) (e : Entry) (r : Result Message Bad) → message_of body ≡ r → line_decided c keys s body now ≡ decided_of c (nwk_at keys) (app_at keys) s body now r
     → entry_of (decided_of c (nwk_at keys) (app_at keys) s body now r) ≡ Some e → Accepted c keys s body now e
 unfolding decided
-accepted_from c keys s body now e (Err fault) is h = absurd cc
-accepted_from c keys s body now e (Ok message) is h =
+accepted_from c keys s body now e (Err fault) reads is h = absurd cc
+accepted_from c keys s body now e (Ok message) reads is h =
     let head = message.head in
     let m = lapse now s.now in
     let entry = made head body now (judged_at c (nwk_at keys) (app_at keys) m head message.request (kept_answer head.sender body s.kept) (is_asked body m)) e h in
@@ -117,12 +119,13 @@ accepted_from c keys s body now e (Ok message) is h =
       change = entry.change;
       is_entry = entry.is;
       is_decision = is ∙ ap (with_entry head body now) entry.accepts ∙ ap (λ (x : Entry). let d : RoamDecision = decision.Accept entry.answer x in d) (sym entry.is);
+      in_range = message_read body message reads;
       accepts = entry.accepts;
     }
 
 pub accepted : (c : Config) (keys : List RootKeys) (s : Desk) (body : List ℕ) (now : ℕ) (e : Entry) → entry_of (line_decided c keys s body now) ≡ Some e → Accepted c keys s body now e
 unfolding line_decided
-accepted c keys s body now e h = accepted_from c keys s body now e (message_of body) refl h
+accepted c keys s body now e h = accepted_from c keys s body now e (message_of body) refl refl h
 
 -- what the entry that a decision makes is such as its reaction's
 pub reaction_entry : (c : Config) (keys : List RootKeys) (s : Desk) (body : List ℕ) (now : ℕ) (d : RoamDecision) (o : Option Entry) (e : Entry) → d ≡ line_decided c keys s body now → o ≡ entry_of d → o ≡ Some e → (reaction c keys s body now).entry ≡ Some e

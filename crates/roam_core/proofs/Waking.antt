@@ -12,7 +12,7 @@ use Rattle.backend_json.specs.declared.head.Head.{Head}
 use Rattle.backend_json.specs.declared.request.AppSKeyRequest.{AppSKeyRequest}
 use Rattle.backend_json.specs.declared.request.JoinRequest.{JoinRequest}
 use Rattle.backend_json.specs.declared.request.Request.{Request}
-use Rattle.backend_json.specs.declared.request.Request.TheVariants.{AppSKeyReq, HomeNSReq, JoinReq, RejoinReq, UplinkReq, Unknown}
+use Rattle.backend_json.specs.declared.request.Request.TheVariants.{AppSKeyReq, HomeNSReq, JoinReq, RejoinReq, UplinkReq, Unknown, XmitDataReq, XmitUplink}
 use Rattle.entry_codec.specs.Devices.{in_slots}
 use Rattle.entry_codec.specs.Machine.{Machine, wake}
 use Rattle.entry_codec.specs.declared.device.Device.{Device}
@@ -120,4 +120,6 @@ wake_unread c nwk app who m head (HomeNSReq request) =
     let other = of_other c who m request.dev_eui in
     ap (home_ns_at c nwk app head other.slots) other.is ∙ home_ns_other c nwk app head other.slots _
 wake_unread c nwk app who m head (UplinkReq request) = refl
+wake_unread c nwk app who m head (XmitDataReq request) = refl
+wake_unread c nwk app who m head (XmitUplink request) = refl
 wake_unread c nwk app who m head Unknown = refl

@@ -7,7 +7,7 @@ use Rattle.backend_json.specs.Answers.{text_of}
 use Rattle.backend_json.specs.declared.answer.Answer.{Answer}
 use Rattle.backend_json.specs.declared.head.Head.{Head}
 use Rattle.backend_json.specs.declared.request.Request.{Request}
-use Rattle.backend_json.specs.declared.request.Request.TheVariants.{AppSKeyReq, HomeNSReq, JoinReq, RejoinReq, UplinkReq, Unknown}
+use Rattle.backend_json.specs.declared.request.Request.TheVariants.{AppSKeyReq, HomeNSReq, JoinReq, RejoinReq, UplinkReq, Unknown, XmitDataReq, XmitUplink}
 use Rattle.entries.specs.declared.change.Change.{Change}
 use Rattle.entries.specs.declared.entry.Entry.{Entry}
 use Rattle.entries.specs.declared.entry.Event.TheVariants as event
@@ -17,6 +17,7 @@ use Rattle.entry_codec.specs.Machine.{Machine, lapse}
 use Rattle.js_core.specs.declared.question.NoQuestion.{NoQuestion}
 use Rattle.js_core.specs.Replies.{JsDecision, js_decided, refused}
 use Rattle.js_core.specs.Replies as js
+use Rattle.ns_core.specs.Payloads.{payload_success}
 use Rattle.ns_core.specs.Replies.{ns_decided, uplink_success}
 use Rattle.roam_core.specs.Desk.{Desk}
 use Rattle.roam_core.specs.Order.{Verdict, Refused, Kept, by_order, order, wrong_receiver, wrong_sender, wrong_type}
@@ -31,13 +32,15 @@ abbrev pub said : Head → Option (List ℕ) → Verdict → JsDecision
 said head kept (Refused cause) = decision.Reply (refused head cause)
 said head kept Kept = decision.Repeat (unwrap_or kept [])
 
--- what a request comes to that no line stands against: the home network answers a gateway, and the join server all others
+-- what a request comes to that no line stands against: the home network answers a gateway, and an application with a payload; the join server all others
 abbrev pub success_of : Config → (ℕ → List ℕ) → (ℕ → List ℕ) → Machine → Head → Request → JsDecision
 success_of c nwk app m head (JoinReq request) = js.success_of c nwk app m head (JoinReq request)
 success_of c nwk app m head (RejoinReq request) = js.success_of c nwk app m head (RejoinReq request)
 success_of c nwk app m head (AppSKeyReq request) = js.success_of c nwk app m head (AppSKeyReq request)
 success_of c nwk app m head (HomeNSReq request) = js.success_of c nwk app m head (HomeNSReq request)
 success_of c nwk app m head (UplinkReq request) = uplink_success c nwk m head request
+success_of c nwk app m head (XmitDataReq request) = payload_success c m head request
+success_of c nwk app m head (XmitUplink request) = js.success_of c nwk app m head (XmitUplink request)
 success_of c nwk app m head Unknown = js.success_of c nwk app m head Unknown
 
 -- of a request in a state in which what has ended is gone, of which an answer was kept or not, and whose body an open ask has or not
@@ -67,20 +70,22 @@ decided c nwk app s head request body now =
 
 -- ---- the parts
 
--- a gateway sends it
-abbrev pub is_heard : Request → Bool
-is_heard (JoinReq request) = false
-is_heard (RejoinReq request) = false
-is_heard (AppSKeyReq request) = false
-is_heard (HomeNSReq request) = false
-is_heard (UplinkReq request) = true
-is_heard Unknown = false
+-- the home network decides it
+abbrev pub is_home_network : Request → Bool
+is_home_network (JoinReq request) = false
+is_home_network (RejoinReq request) = false
+is_home_network (AppSKeyReq request) = false
+is_home_network (HomeNSReq request) = false
+is_home_network (UplinkReq request) = true
+is_home_network (XmitDataReq request) = true
+is_home_network (XmitUplink request) = false
+is_home_network Unknown = false
 
--- what the home network makes of a request of a gateway, and the join server of any other
+-- what the home network makes of what a gateway heard and of a payload, and the join server of any other request
 abbrev pub by_part : Config → (ℕ → List ℕ) → (ℕ → List ℕ) → Machine → Head → Request → JsDecision
-by_part c nwk app m head request = if is_heard request then ns_decided c nwk m head request else js_decided c nwk app m head request
+by_part c nwk app m head request = if is_home_network request then ns_decided c nwk m head request else js_decided c nwk app m head request
 
--- a request that no line before the frame's size stands against comes to what its part makes of it
+-- a request that no line before the size stands against comes to what its part makes of it
 abbrev pub PartsDecide : Type 0
-PartsDecide = (c : Config) (nwk app : ℕ → List ℕ) (m : Machine) (head : Head) (request : Request) → wrong_sender c head ≡ false → wrong_receiver c head ≡ false → wrong_type c head ≡ false
+PartsDecide = (c : Config) (nwk app : ℕ → List ℕ) (m : Machine) (head : Head) (request : Request) → wrong_sender c head ≡ false → wrong_receiver c head ≡ false → wrong_type c head request ≡ false
     → judged_at c nwk app m head request None false ≡ by_part c nwk app m head request

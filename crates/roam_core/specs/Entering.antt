@@ -7,7 +7,7 @@ use Rattle.agreements.specs.LookUps.{AreFound as HasPlaces}
 use Rattle.agreements.specs.Walk.{Config}
 use Rattle.backend_json.specs.declared.answer.Answer.{Answer}
 use Rattle.backend_json.specs.declared.answer.Answer.TheVariants.{Headed, Headless}
-use Rattle.backend_json.specs.declared.answer.Outcome.TheVariants.{AppSKeyAns, HomeNSAns, JoinAns, Refused, RejoinAns, UplinkAns}
+use Rattle.backend_json.specs.declared.answer.Outcome.TheVariants.{AppSKeyAns, HomeNSAns, JoinAns, Refused, RejoinAns, UplinkAns, XmitDataAns}
 use Rattle.entries.specs.declared.entry.Entry.{Entry}
 use Rattle.entry_codec.specs.Empty.{empty}
 use Rattle.entry_codec.specs.Fits.{fits, is_time}
@@ -44,20 +44,21 @@ pub record StatesStay : Type 0 where
 
 -- ---- what makes an entry
 
--- an answer that gives a device a session, or counts its uplink
-abbrev pub gives_session : Answer → Bool
-gives_session Headless = false
-gives_session (Headed head (Refused cause)) = false
-gives_session (Headed head (JoinAns members)) = true
-gives_session (Headed head (RejoinAns members)) = true
-gives_session (Headed head (AppSKeyAns members)) = false
-gives_session (Headed head (HomeNSAns members)) = false
-gives_session (Headed head (UplinkAns members)) = true
+-- an answer that gives a device a session, counts its uplink, or takes a payload for it
+abbrev pub tells_change : Answer → Bool
+tells_change Headless = false
+tells_change (Headed head (Refused cause)) = false
+tells_change (Headed head (JoinAns members)) = true
+tells_change (Headed head (RejoinAns members)) = true
+tells_change (Headed head (AppSKeyAns members)) = false
+tells_change (Headed head (HomeNSAns members)) = false
+tells_change (Headed head (UplinkAns members)) = true
+tells_change (Headed head (XmitDataAns members)) = true
 
 abbrev pub enters : RoamDecision → Bool
 enters (decision.Repeat text) = false
 enters (decision.Reply answer) = false
-enters (decision.Accept answer e) = gives_session answer
+enters (decision.Accept answer e) = tells_change answer
 enters (decision.AskPeer peer question e) = true
 
 -- a refusal, a kept answer, an AppSKeyAns, a HomeNSAns and the answer to a duplicate make no entry and change nothing

@@ -7,8 +7,8 @@ ghost use Rattle.entry_codec.specs.LookUps.{is_asked};
 ghost use Rattle.entry_codec.specs.Machine.{lapse};
 ghost use Rattle.key_vault.specs.Table.{app_at, nwk_at};
 ghost use Rattle.backend_json.specs.declared.head.Head as heads;
-ghost use Rattle.roam_core.specs.Decided.{by_part, decided, entry_in, is_heard, judged_at};
-ghost use Rattle.roam_core.specs.Decided.{with_entry};
+ghost use Rattle.roam_core.specs.Decided.{by_part, decided, entry_in, is_home_network};
+ghost use Rattle.roam_core.specs.Decided.{judged_at, with_entry};
 ghost use Rattle.roam_core.specs.Desk.{desk_of};
 ghost use Rattle.roam_core.specs.Texts.{HasText, kept_text};
 
@@ -94,21 +94,23 @@ fn with_entry<'a>(
     }
 }
 
-// Whether a gateway sends it.
-fn is_heard(request: &Request) -> bool
-    ensures { result ≡ is_heard request.now }
+// Whether the home network decides it.
+fn is_home_network(request: &Request) -> bool
+    ensures { result ≡ is_home_network request.now }
 {
     match request {
-        Request::UplinkReq(_) => true,
+        Request::UplinkReq(_) | Request::XmitDataReq(_) => true,
         Request::JoinReq(_)
         | Request::RejoinReq(_)
         | Request::AppSKeyReq(_)
         | Request::HomeNSReq(_)
+        | Request::XmitUplink(_)
         | Request::Unknown => false,
     }
 }
 
-// What the home network makes of a request of a gateway, and the join server of any other.
+// What the home network makes of what a gateway heard and of a payload, and the join server of any
+// other request.
 fn by_part<'a, E: BlockFn, D: BlockFn>(
     alloc: Global,
     tables: &'a Tables,
@@ -121,7 +123,7 @@ fn by_part<'a, E: BlockFn, D: BlockFn>(
     ensures { IfOk result (λ d. d ≡ by_part tables.now (nwk_at vault.now) (app_at vault.now)
         (lapse now.0 state.now.now) message.head message.request) }
 {
-    if is_heard(&message.request) {
+    if is_home_network(&message.request) {
         return ns_decide(alloc, tables, vault, state, message, now);
     }
     js_decide(alloc, tables, vault, state, message, now)
@@ -151,7 +153,7 @@ fn judged<'a, E: BlockFn, D: BlockFn>(
     if !reaches(tables, head.message_type.receiver(), head.receiver) {
         return Ok(Decision::Reply(refused(head, Refusal::Receiver)));
     }
-    if !may_send(tables, head.message_type.sender(), head.sender) {
+    if !may_send(tables, request.sender(), head.sender) {
         return Ok(Decision::Reply(refused(head, Refusal::Type)));
     }
     if let Some(kept) = state.kept_answer(head.sender, body) {

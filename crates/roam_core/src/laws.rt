@@ -14,8 +14,8 @@ pub fn numbers_rise()
     ensures { NumbersRise }
 {}
 
-/// A request that no line of the order before the frame's size stands against comes to what its
-/// part makes of it: the home network of a gateway's request, the join server of any other.
+/// A request that no line of the order before the size stands against comes to what its part makes
+/// of it: the home network of a gateway's request and of a payload, the join server of any other.
 pub fn parts_decide()
     ensures { PartsDecide }
 {}
@@ -32,7 +32,7 @@ pub fn states_stay()
 {}
 
 /// A refusal, a kept answer, the answer to a duplicate, and one that neither gives a session nor
-/// counts an uplink, make no entry and change nothing.
+/// counts an uplink nor takes a payload, make no entry and change nothing.
 pub fn replies_keep()
     ensures { RepliesKeep }
 {}

@@ -130,7 +130,7 @@ past-others P k n s apart h = record { active = other_slot P k n s.active apart 
 
 -- it is above what was past, and is past once the downlink was made
 pub record IsNumber (d : Downlink) (dev : Eui) (c : Context) (k : ContextCounter) (n : ℕ) : Type 0 where
-  pub dev : dev ≡ k.dev_eui
+  pub name : dev ≡ k.dev_eui
   pub origin : c.origin ≡ k.origin
   pub above : (m : ℕ) → IsPast k.counter m c → m < n
   pub past : (count : ℕ) (frame : List ℕ) → IsSoundContext c → IsTrue (can_answer d c) → IsPast k.counter n (answered d (slots.heard count frame c))
@@ -154,7 +154,7 @@ item_number : (dev : Eui) (c : Context) (k : ContextCounter) (n : ℕ) (items : 
     → option_map {U = ContextCounter × ℕ} (λ (item : Item). (counter_of dev c AFCntDown, item.number)) (first_in items) ≡ Some (k, n) → IsNumber down.FirstItem dev c k n
 item_number dev c k n [] is e = absurd cc
 item_number dev c k n (item ∷ rest) is e = as_number down.FirstItem dev c (counter_of dev c AFCntDown) k item.number n e (record {
-  dev = refl;
+  name = refl;
   origin = refl;
   above = λ m h. let rises : Rises (m + 1) (item ∷ rest) c.next_a = subst (λ (xs : List Item). Rises (m + 1) xs c.next_a) (sym is) h in omega (arith, rises.0);
   past = λ count frame sound can. past-new_taken c.queue.items (slots.heard count frame c) item rest is sound.rising;
@@ -163,7 +163,7 @@ item_number dev c k n (item ∷ rest) is e = as_number down.FirstItem dev c (cou
 pub is_number : (d : Downlink) (dev : Eui) (c : Context) (k : ContextCounter) (n : ℕ) → ◌≡◌ {A = Option (ContextCounter × ℕ)} (number_in d dev c) (Some (k, n)) → IsNumber d dev c k n
 is_number down.Nothing dev c k n e = absurd cc
 is_number down.Empty dev c k n e = as_number down.Empty dev c (counter_of dev c NFCntDown) k c.next_n n e (record {
-  dev = refl;
+  name = refl;
   origin = refl;
   above = λ m h. h;
   past = λ count frame sound can. past-new_drawn (slots.heard count frame c) can;

@@ -59,7 +59,7 @@ up_above : (u : Uplink) (m : Machine) (k : ContextCounter) (n next : ℕ) → Is
 up_above u m k n next fit past e =
     let at = heard_at u m fit in
     let is = up_is u m at k next e in
-    let slots = past-woken k n u.pending at.slots (past_held k n u.dev_eui m (holder_of u.dev_eui m) at.slots is.dev past (is_held u.dev_eui m at.slots at.there)) in
+    let slots = past-woken k n u.pending at.slots (past_held k n u.dev_eui m (holder_of u.dev_eui m) at.slots is.name past (is_held u.dev_eui m at.slots at.there)) in
     is.above n (subst (λ (o : Option Context). OnSlot (PastIn k n) o) at.active slots.active is.origin)
 
 up_to : (u : Uplink) (m : Machine) (k : ContextCounter) (n : ℕ) → IsSound m → AreOnce (names m.devices) → IsTrue (fits_up u m) → up_number u m ≡ Some (k, n)

@@ -38,7 +38,7 @@ use Rattle.histories.proofs.Past.{CameBefore, Past, PastVisitor}
 pub record IsDevice (dev : Eui) (m : Machine) (who : Option Holder) (s : Slots) : Type 0 where
   pub place : ℕ
   pub device : Device
-  pub who : who ≡ Some (holder.Device place)
+  pub is : who ≡ Some (holder.Device place)
   pub there : slice_get m.devices place ≡ Some device
   pub name : device.dev_eui.0 ≡ dev.0
   pub slots : device.slots ≡ s
@@ -46,7 +46,7 @@ pub record IsDevice (dev : Eui) (m : Machine) (who : Option Holder) (s : Slots) 
 pub record IsGuest (dev : Eui) (m : Machine) (who : Option Holder) (s : Slots) : Type 0 where
   pub place : ℕ
   pub visitor : Visitor
-  pub who : who ≡ Some (holder.Visitor dev)
+  pub is : who ≡ Some (holder.Visitor dev)
   pub found : position (is_visitor dev) m.visitors ≡ Some place
   pub there : slice_get m.visitors place ≡ Some visitor
   pub name : visitor.dev_eui.0 ≡ dev.0
@@ -61,7 +61,7 @@ device_held dev m i s None there place e = absurd cc
 device_held dev m i s (Some d) there place e = AsDevice (record {
   place = i;
   device = d;
-  who = refl;
+  is = refl;
   there = there;
   name = eqb-true d.dev_eui.0 dev.0 (place_passes (is_dev dev) m.devices i d place there);
   slots = some_is d.slots s e;
@@ -73,7 +73,7 @@ guest_at dev m s (Some i) None place there e = absurd cc
 guest_at dev m s (Some i) (Some v) place there e = AsGuest (record {
   place = i;
   visitor = v;
-  who = refl;
+  is = refl;
   found = place;
   there = there;
   name = eqb-true v.dev_eui.0 dev.0 (place_passes (is_visitor dev) m.visitors i v place there);
@@ -160,7 +160,7 @@ no_seed entries last (Seeded seed) h = absurd h
 no_seed entries last (Given number keys) h = tt
 
 module _ (u : Uplink) (m : Machine) (k : ContextCounter) (n : ℕ) (sound : IsSound m) (once : AreOnce (names m.devices)) (at : HeardAt u m) (is : IsNumber u.down u.dev_eui at.context k n) where
-  step : Slots → Slots
+  abbrev pub step : Slots → Slots
   step s = heard u.pending u.count u.frame u.down s
 
   device_named : (j : ℕ) (d : Device) → slice_get m.devices j ≡ Some d → slice_get (names m.devices) j ≡ Some d.dev_eui.0
@@ -177,10 +177,10 @@ module _ (u : Uplink) (m : Machine) (k : ContextCounter) (n : ℕ) (sound : IsSo
       let seeded : IsSeededTo last k.origin = subst (IsSeededTo last) is.origin (origin_of (IsSeededTo last) u.pending u.down u.dev_eui at.slots at.context k n slots at.active) in
       let past : PastSlots k n (step at.slots) = past-own (IsSeededTo last) u.pending u.down u.dev_eui at.slots at.context k n u.count u.frame slots at.active at.can is in
       let after : PastOf k n (in_slots step h.device) = record { given = seed_was_given last k.origin seeded; slots = subst (λ (x : Slots). PastSlots k n (step x)) (sym h.slots) past } in
-      subst (λ (who : Option Holder). Past k n (on_slots who step m)) (sym h.who) (record {
+      subst (λ (who : Option Holder). Past k n (on_slots who step m)) (sym h.is) (record {
         before = seed_before last m.entries k.origin seeded;
         devices = all_but (PastDevice k n) h.place (in_slots step) m.devices
-            (λ j d there apart e. absurd (apart (once j h.place k.dev_eui.0 (device_named j d there ∙ ap Some e) (device_named h.place h.device h.there ∙ ap Some (h.name ∙ ap (λ (x : Eui). x.0) is.dev)))))
+            (λ j d there apart e. absurd (apart (once j h.place k.dev_eui.0 (device_named j d there ∙ ap Some e) (device_named h.place h.device h.there ∙ ap Some (h.name ∙ ap (λ (x : Eui). x.0) is.name)))))
             (λ d there e. subst (λ (x : Device). PastOf k n (in_slots step x)) (some_is h.device d (sym h.there ∙ there)) after);
         visitors = all_more (IsSoundVisitor m.entries m.devices) (PastVisitor k n) m.visitors (λ v s e. past-others (IsGivenBefore m.entries) k n v.slots (seed_given last m.entries k.origin seeded) s.slots) sound.visitors;
       })
@@ -191,7 +191,7 @@ module _ (u : Uplink) (m : Machine) (k : ContextCounter) (n : ℕ) (sound : IsSo
       let slots : AreSlots (IsGivenBefore m.entries) at.slots = subst (λ (x : Slots). AreSlots (IsGivenBefore m.entries) x) h.slots own.slots in
       let given : IsGivenBefore m.entries k.origin = subst (IsGivenBefore m.entries) is.origin (origin_of (IsGivenBefore m.entries) u.pending u.down u.dev_eui at.slots at.context k n slots at.active) in
       let past : PastSlots k n (step at.slots) = past-own (IsGivenBefore m.entries) u.pending u.down u.dev_eui at.slots at.context k n u.count u.frame slots at.active at.can is in
-      subst (λ (who : Option Holder). Past k n (on_slots who step m)) (sym h.who) (record {
+      subst (λ (who : Option Holder). Past k n (on_slots who step m)) (sym h.is) (record {
         before = keys_before m.entries k.origin given;
         devices = all_more (IsSoundDevice m.senders) (PastDevice k n) m.devices (λ d s e. record {
           given = no_seed m.entries d.join_nonce k.origin given;
@@ -199,7 +199,7 @@ module _ (u : Uplink) (m : Machine) (k : ContextCounter) (n : ℕ) (sound : IsSo
         }) sound.devices;
         visitors = subst (λ (o : Option ℕ). AllByRecursion (PastVisitor k n) (changed_there (in_visitor step) m.visitors o)) (sym h.found)
             (all_but (PastVisitor k n) h.place (in_visitor step) m.visitors
-            (λ j v there apart e. absurd (apart (rising_once 0 (map visitor_number m.visitors) sound.visitors_in_order j h.place k.dev_eui.0 (visitor_named_at j v there ∙ ap Some e) (visitor_named_at h.place h.visitor h.there ∙ ap Some (h.name ∙ ap (λ (x : Eui). x.0) is.dev)))))
+            (λ j v there apart e. absurd (apart (rising_once 0 (map visitor_number m.visitors) sound.visitors_in_order j h.place k.dev_eui.0 (visitor_named_at j v there ∙ ap Some e) (visitor_named_at h.place h.visitor h.there ∙ ap Some (h.name ∙ ap (λ (x : Eui). x.0) is.name)))))
             (λ v there e. subst (λ (x : Visitor). PastSlots k n (step x.slots)) (some_is h.visitor v (sym h.there ∙ there)) (subst (λ (x : Slots). PastSlots k n (step x)) (sym h.slots) past)));
       })
 

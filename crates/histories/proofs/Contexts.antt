@@ -1,10 +1,9 @@
 -- Each step of a context, and of a device's two, leaves past what was past.
-use Rattle.std.proofs.Common.{◌≡◌, ℕ, ◌+◌, ◌<◌, ◌≤◌, ◌^◌, Bool, true, false, cond, List, [], ◌∷◌, ◌++◌, Option, Some, None, option_map, refl, sym, ap, subst, ◌∙◌, arith}
-use Rattle.std.specs.Prelude.{IsTrue, nat_lt, length}
-use borrow.Author.Tests.{ltb-true}
+use Rattle.std.proofs.Common.{◌≡◌, ℕ, ◌+◌, ◌<◌, ◌≤◌, ◌^◌, Bool, true, false, cond, List, [], ◌∷◌, ◌++◌, Option, Some, None, option_map, refl, sym, subst, ◌∙◌, arith}
+use Rattle.std.specs.Prelude.{IsTrue, nat_lt}
 use Rattle.std.proofs.lemmas.Option.{some_pair_parts}
 use Rattle.wire_ids.specs.declared.eui.Eui.{Eui}
-use Rattle.contexts.specs.Queue.{drawn, first_in, pushed, taken, without_first}
+use Rattle.contexts.specs.Queue.{drawn, first_in, pushed, without_first}
 use Rattle.contexts.specs.Slots.{accepted, activated, activated_by, offered, on_active, woken}
 use Rattle.contexts.specs.Slots as slots
 use Rattle.contexts.specs.Sound.{IsSoundContext, IsSoundSlot, Rises}

@@ -1,7 +1,7 @@
 -- Each step of a device leaves past what was past, as a new context has a JoinNonce above the last.
 use Rattle.std.proofs.Common.{◌≡◌, ℕ, ◌<◌, ◌≤◌, Bool, Option, Some, None, refl, sym, ap, ◌∙◌, arith}
 use Rattle.std.specs.Prelude.{IsTrue, ◌&&◌, ◌^◌, nat_le, nat_lt, length}
-use borrow.Author.Tests.{leb-true, ltb-true}
+use borrow.Author.Tests.{leb-true}
 use Rattle.wire_ids.specs.declared.eui.Eui.{Eui}
 use Rattle.wire_ids.specs.declared.keys.Seed.{Seed}
 use Rattle.contexts.specs.Contexts.{fresh_of}
@@ -16,7 +16,6 @@ use Rattle.entries.specs.declared.used_seed.UsedSeed.{UsedSeed}
 use Rattle.entries.specs.declared.used_seed.UsedSeed.TheVariants.{Rejoin0, Rejoin1, Rejoin2}
 use Rattle.entry_codec.specs.Devices.{called_back, in_slots, joined, kept_count, lapsed, lent_out, marked, queued, rejoined, seed_of, stepped, with_grant, with_session}
 use Rattle.entry_codec.specs.Fits.{can_queue, takes}
-use Rattle.entry_codec.specs.Sound.{IsSeededTo}
 use Rattle.entry_codec.specs.declared.device.Device.{Device}
 use Rattle.entry_codec.specs.declared.device.Granted.{Granted}
 use Rattle.entry_codec.specs.declared.device.LentTo.{LentTo}

@@ -1,13 +1,9 @@
 -- Each downlink of an entry that fits has a number, above those of its counter before it.
-use Rattle.std.proofs.Common.{◌≡◌, ℕ, suc, ◌<◌, ◌≤◌, Bool, true, false, cond, List, [], ◌∷◌, length, map, Option, Some, None, option_map, refl, sym, ap, subst, ◌∙◌}
-use Rattle.std.specs.Prelude.{IsTrue, ◌&&◌, nat_le, nat_lt, is_some, slice_get}
+use Rattle.std.proofs.Common.{◌≡◌, ℕ, suc, ◌<◌, Bool, true, false, cond, List, [], ◌∷◌, length, Option, Some, None, option_map, refl, sym, ap, subst, ◌∙◌}
+use Rattle.std.specs.Prelude.{IsTrue, ◌&&◌, nat_lt, is_some}
 use Rattle.std.specs.List.{filter}
-use Rattle.wire_ids.specs.Lists.{changed, holds_of}
 use Rattle.wire_ids.specs.declared.party.Sender.{Sender}
-use Rattle.agreements.specs.LookUps.{AreFound as HasPlaces}
-use Rattle.agreements.specs.Walk.{Config}
 use Rattle.contexts.specs.Queue.{first_in}
-use Rattle.contexts.specs.Slots.{woken}
 use Rattle.contexts.specs.declared.context.Context.{Context}
 use Rattle.contexts.specs.declared.context.Item.{Item}
 use Rattle.contexts.specs.declared.slots.Slots.{Slots}
@@ -39,9 +35,9 @@ use Rattle.entry_codec.proofs.Sound.{sound-after, sound-ready}
 use Rattle.entry_codec.proofs.SoundDevices.{same-with_grant}
 use Rattle.entry_codec.proofs.SoundEmpty.{names-empty, sound-empty}
 use Rattle.entry_codec.proofs.Stays.{fits_its_event, names-after, stays-ready}
-use Rattle.histories.specs.Downlinks.{AFCntDown, ContextCounter, DownlinkNumbersOnce, IssuesOnce, change_has_down, change_number, counter_of, event_has_down, event_number, has_down, heard_under, is_down, issued, number_at, number_in, up_number}
+use Rattle.histories.specs.Downlinks.{AFCntDown, ContextCounter, DownlinkNumbersOnce, change_has_down, change_number, counter_of, event_has_down, event_number, has_down, heard_under, is_down, issued, number_at, number_in, up_number}
 use Rattle.histories.proofs.Above.{GoesPast, rising}
-use Rattle.histories.proofs.Contexts.{IsNumber, PastIn, PastSlots, is_number, past-woken}
+use Rattle.histories.proofs.Contexts.{IsNumber, PastIn, is_number, past-woken}
 use Rattle.histories.proofs.Devices.{past-with_grant}
 use Rattle.histories.proofs.Elements.{AreOnce, changes-commute, found_once}
 use Rattle.histories.proofs.Holders.{HeardAt, heard_at, is_held, past_held, past_to}

@@ -1,6 +1,6 @@
 -- Whose contexts an uplink hears, and that no other has the same counter.
-use Rattle.std.proofs.Common.{◌≡◌, ◌≢◌, ℕ, ◌<◌, ◌≤◌, Bool, true, false, cond, List, map, Option, Some, None, option_map, refl, sym, ap, subst, ◌∙◌, eqb-true}
-use Rattle.std.specs.Prelude.{IsTrue, ◌==◌, ◌&&◌, find, nat_le, length, position, slice_get}
+use Rattle.std.proofs.Common.{◌≡◌, ℕ, Bool, true, false, cond, map, Option, Some, None, option_map, refl, sym, ap, subst, ◌∙◌, eqb-true}
+use Rattle.std.specs.Prelude.{IsTrue, nat_le, length, position, slice_get}
 use Rattle.std.specs.List.{AllByRecursion, list_any}
 use Rattle.std.proofs.lemmas.Option.{slice_get-map}
 use Rattle.wire_ids.specs.Lists.{at_place, changed_there, holds_of}
@@ -11,7 +11,6 @@ use Rattle.contexts.specs.declared.context.Context.{Context}
 use Rattle.contexts.specs.declared.context.Origin.{Origin}
 use Rattle.contexts.specs.declared.context.Origin.TheVariants.{Given, Seeded}
 use Rattle.contexts.specs.declared.slots.Slots.{Slots}
-use Rattle.entries.specs.declared.change.Downlink.{Downlink}
 use Rattle.entries.specs.declared.change.Uplink.{Uplink}
 use Rattle.entry_codec.specs.Devices.{heard, in_slots}
 use Rattle.entry_codec.specs.Fits.{can_answer, can_hear, fits_slots, fits_up, is_above, is_there}
@@ -23,7 +22,7 @@ use Rattle.entry_codec.specs.declared.device.Device.{Device}
 use Rattle.entry_codec.specs.declared.parties.Holder.{Holder}
 use Rattle.entry_codec.specs.declared.parties.Holder.TheVariants as holder
 use Rattle.entry_codec.specs.declared.parties.Visitor.{Visitor}
-use Rattle.entry_codec.proofs.Bools.{and_left, and_right}
+use Rattle.entry_codec.proofs.Bools.{and_right}
 use Rattle.entry_codec.proofs.Ordered.{some_is}
 use Rattle.entry_codec.proofs.Places.{find-place}
 use Rattle.histories.specs.Downlinks.{ContextCounter}

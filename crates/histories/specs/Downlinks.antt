@@ -1,5 +1,5 @@
 -- The numbers of the downlinks in a history (LoRaWAN 1.1, 4.3.1.5).
-use Rattle.std.specs.Prelude.{◌≡◌, ◌≢◌, ℕ, ◌≤◌, ◌==◌, not, List, length, Option, Some, None, option_map, Bool, true, false, AllPairs}
+use Rattle.std.specs.Prelude.{◌≡◌, ◌≢◌, ℕ, ◌≤◌, List, length, Option, Some, None, option_map, Bool, true, false, AllPairs}
 use Rattle.std.specs.List.{filter}
 use Rattle.wire_ids.specs.declared.eui.Eui.{Eui}
 use Rattle.agreements.specs.LookUps.{AreFound as HasPlaces}

@@ -154,6 +154,15 @@ def down_frame(s, addr, count, confirmed=False, ack=None, pending=False, port=No
     return text + down_mic(s, text, count, 0 if ack is None else ack % 65536)
 
 
+def encrypted(key, addr, count, payload):
+    """A downlink's payload under its key and counter, or back from there."""
+    text = b""
+    for i in range(0, len(payload), 16):
+        block = b"\x01" + bytes(4) + b"\x01" + le(addr, 4) + le(count, 4) + bytes([0, i // 16 + 1])
+        text += bytes(a ^ b for a, b in zip(payload[i : i + 16], enc(key, block)))
+    return text
+
+
 def full_count(last, wire):
     """The least number above the last one whose low 16 bits are those sent; None where it would pass 2^32 - 1."""
     if last is None:

@@ -4,7 +4,8 @@ import random
 
 from common import flipped, started
 from device import ADR_ACK_REQ
-from talk import FIRST, SECOND, device
+from formulas import app_s_key, encrypted
+from talk import FIRST, SECOND, device, head, request
 
 
 def without_items():
@@ -400,3 +401,23 @@ def traffic():
                     wanted = f"N{dev.session.next_down[False]} ack"
                 talk.takes(dev, wanted, confirmed=confirmed, rate=chance.randrange(6), channel=chance.randrange(3))
         yield talk
+
+
+def example():
+    def valve_open(dev):
+        return encrypted(app_s_key(bytes([0x81]) * 16, dev.session.seed), dev.session.addr, 0, b"valve open")
+
+    talk, dev = started("the example of docs/OPERATING.md: a payload that its application encrypts")
+    asks = head("a000000000000001", "70b3d57ed0000001", talk.next_id(), "AppSKeyReq")
+    talk.say(request({**asks, "DevEUI": f"{dev.eui:016x}", "SessionKeyID": f"{dev.eui:016x}000001"}))
+    talk.queues(dev, 0, payload=valve_open(dev), port=2)
+    talk.takes(dev, "A0")
+    yield talk
+
+    talk, dev = started("the last conversations of ./demo")
+    talk.hears("40000000260000000101020304097f5ced", gateway=SECOND, TransactionID=1)
+    talk.transaction = 2
+    talk.queues(dev, 0, payload=valve_open(dev), port=2)
+    talk.transaction = 2
+    talk.takes(dev, "A0")
+    yield talk

@@ -1,0 +1,4 @@
+//! Laws over all histories of entries that fit.
+#![tactic(auto)]
+
+pub mod laws;

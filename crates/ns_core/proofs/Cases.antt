@@ -22,14 +22,14 @@ use Rattle.js_core.specs.Rules.{by_rules}
 use Rattle.js_core.specs.Steps as step
 use Rattle.js_core.specs.Steps.{step_of, used_seed}
 use Rattle.js_core.proofs.Causes.{first_said, none_said}
-use Rattle.ns_core.specs.Frames.{addr_of, is_data}
+use Rattle.exchanges.specs.Frames.{addr_of, is_data}
 use Rattle.ns_core.specs.Heard.{Heard, Join, Data, Neither, heard_by, heard_of}
 use Rattle.ns_core.specs.Own.{own_context}
 use Rattle.ns_core.specs.Payloads.{is_full, low_number, payload_decided, payload_rules_at, payload_success_at, too_large, wrong_device, wrong_session}
 use Rattle.ns_core.specs.Replies.{activated_with, counted_with, duplicate_answer, ns_decided, success_at, uplink_decided, uplink_success}
 use Rattle.ns_core.specs.Rules.{uplink_rules, uplink_rules_at}
 use Rattle.ns_core.specs.Speakers.{Speaker, count_of, is_duplicate, speaker_of}
-use Rattle.ns_core.specs.declared.valid.Count.{Count}
+use Rattle.exchanges.specs.declared.valid.Count.{Count}
 use Rattle.ns_core.proofs.Payloads.{payload_at}
 
 -- a join- or rejoin-request that no rule refuses, and what it finds

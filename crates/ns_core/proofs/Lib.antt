@@ -1,7 +1,3 @@
-pub mod Least
-pub mod Reading
-pub mod Counting
-pub mod Downlinks
 pub mod Payloads
 mod Lapsing
 mod Rules

@@ -19,13 +19,13 @@ use Rattle.js_core.specs.Rules.{by_rules}
 use Rattle.js_core.specs.Steps.{step_of}
 use Rattle.js_core.specs.declared.step.JoinStep.{JoinStep}
 use Rattle.js_core.proofs.Causes.{first_said, none_said}
-use Rattle.ns_core.specs.Frames.{addr_of, is_data}
+use Rattle.exchanges.specs.Frames.{addr_of, is_data}
 use Rattle.ns_core.specs.Heard.{Heard, Join, Data, Neither, heard_by, heard_of}
 use Rattle.ns_core.specs.Own.{own_context}
 use Rattle.ns_core.specs.Replies.{activated_with, counted_with, duplicate_answer, success_at, uplink_decided, uplink_success}
 use Rattle.ns_core.specs.Rules.{CausesAscend, no_address, uplink_rules, uplink_rules_at}
 use Rattle.ns_core.specs.Speakers.{Speaker, count_of, is_duplicate, speaker_of}
-use Rattle.ns_core.specs.declared.valid.Count.{Count}
+use Rattle.exchanges.specs.declared.valid.Count.{Count}
 
 -- ---- rules behind others
 

@@ -24,7 +24,7 @@ use Rattle.js_core.specs.Replies.{JsDecision, refuses}
 use Rattle.js_core.specs.Rules.{by_rules}
 use Rattle.js_core.specs.Steps.{used_seed}
 use Rattle.js_core.proofs.Unread.{SameBare, bare, erased, found_bare, of_bare}
-use Rattle.ns_core.specs.Frames.{addr_of, is_data}
+use Rattle.exchanges.specs.Frames.{addr_of, is_data}
 use Rattle.ns_core.specs.Heard.{Heard, Join, Data, Neither, heard_by, heard_of}
 use Rattle.ns_core.specs.Own.{own_address, own_context}
 use Rattle.ns_core.specs.Payloads.{payload_decided}

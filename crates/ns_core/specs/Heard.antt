@@ -6,7 +6,7 @@ use Rattle.join_frames.specs.declared.join_up.JoinUp.{JoinUp}
 use Rattle.js_core.specs.Found.{Found}
 use Rattle.js_core.specs.Frames.{join_up_of}
 use Rattle.js_core.specs.Home.{sender_found}
-use Rattle.ns_core.specs.Frames.{addr_of, is_data}
+use Rattle.exchanges.specs.Frames.{addr_of, is_data}
 use Rattle.ns_core.specs.Speakers.{Speaker, speaker_of}
 
 -- a join- or rejoin-request and its device, a data uplink and who sent it, or neither

@@ -1,8 +1,4 @@
-pub mod Least
-pub mod Frames
-pub mod Valid
 pub mod Speakers
-pub mod Downlinks
 pub mod Heard
 pub mod Own
 pub mod Rules

@@ -22,14 +22,14 @@ use Rattle.js_core.specs.Replies.{JsDecision, home_accept, refuses}
 use Rattle.js_core.specs.Rules.{by_rules}
 use Rattle.js_core.specs.Steps.{change_of, step_of}
 use Rattle.js_core.specs.declared.step.JoinStep.{JoinStep}
-use Rattle.ns_core.specs.Downlinks.{down_fields, down_of, text_under}
+use Rattle.exchanges.specs.Downlinks.{down_fields, down_of, text_under}
 use Rattle.ns_core.specs.Heard.{Heard, Join, Data, Neither, heard_of}
 use Rattle.ns_core.specs.Own.{own_context}
 use Rattle.ns_core.specs.Payloads.{payload_decided}
 use Rattle.ns_core.specs.Rules.{uplink_rules}
 use Rattle.ns_core.specs.Sessions.{session_of}
 use Rattle.ns_core.specs.Speakers.{Speaker, count_of, is_duplicate, keys_of}
-use Rattle.ns_core.specs.declared.valid.Count.{Count}
+use Rattle.exchanges.specs.declared.valid.Count.{Count}
 
 -- ---- joins and rejoins
 

@@ -16,10 +16,10 @@ use Rattle.entry_codec.specs.Machine.{Machine}
 use Rattle.entry_codec.specs.declared.parties.Holder.{Holder}
 use Rattle.entry_codec.specs.declared.parties.Holder.TheVariants as holder
 use Rattle.entry_codec.specs.declared.parties.LiveContext.{LiveContext}
-use Rattle.ns_core.specs.Valid.{up_valid}
+use Rattle.exchanges.specs.Valid.{up_valid}
 use Rattle.ns_core.specs.declared.speaker.Speaking.{Speaking}
 use Rattle.ns_core.specs.declared.speaker.Valid.{Valid}
-use Rattle.ns_core.specs.declared.valid.Count.{Count}
+use Rattle.exchanges.specs.declared.valid.Count.{Count}
 
 -- a device of the tables or a visitor, with one of its contexts
 pub record Speaker : Type 0 where

@@ -7,7 +7,7 @@ ghost use Rattle.key_vault.specs.Table.{nwk_at};
 ghost use Rattle.ns_core.specs.Replies.{ns_decided, uplink_decided};
 
 use crate::activation::activation_decision;
-use crate::frames::data_up;
+use exchanges::data_up;
 use crate::payload::payload_decision;
 use crate::uplink::data_decision;
 use agreements::Tables;

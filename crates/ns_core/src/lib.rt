@@ -3,8 +3,6 @@
 
 mod activation;
 mod decide;
-mod downlink;
-mod frames;
 pub mod laws;
 mod own;
 mod payload;
@@ -12,7 +10,5 @@ mod session;
 mod speaker;
 mod text;
 mod uplink;
-mod valid;
 
 pub use decide::ns_decide;
-pub use valid::Count;

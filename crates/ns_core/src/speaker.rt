@@ -5,11 +5,11 @@ ghost use Rattle.std.specs.Option.{option_copied};
 ghost use Rattle.data_frames.specs.DataForms.{fields_of};
 ghost use Rattle.entry_codec.specs.Machine.{lapse};
 ghost use Rattle.key_vault.specs.Table.{nwk_at};
-ghost use Rattle.ns_core.specs.Frames.{HasFields};
+ghost use Rattle.exchanges.specs.Frames.{HasFields};
 ghost use Rattle.ns_core.specs.Speakers.{HasRow, context_at, count_in, count_of, in_slot};
 ghost use Rattle.ns_core.specs.Speakers.{is_duplicate, keys_of, name_of, speaker_now, speaker_of};
 
-use crate::valid::{Count, up_valid};
+use exchanges::{Count, up_valid};
 use agreements::Tables;
 use contexts::{Context, Origin, Slots};
 use data_frames::DataUp;

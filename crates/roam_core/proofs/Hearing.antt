@@ -49,15 +49,15 @@ use Rattle.join_frames.specs.declared.join_up.JoinUp.TheVariants.{Join, Rejoin02
 use Rattle.js_core.specs.Found.{Found}
 use Rattle.js_core.specs.Steps.{change_of, is_not_above, next_seed, rejoin_seed, seed_place, step_of, used_seed}
 use Rattle.js_core.proofs.Cases.{stands_at}
-use Rattle.ns_core.specs.Downlinks.{down_of, fits_at, has_fitting_item, has_number, rx1_rate, wants_downlink}
-use Rattle.ns_core.specs.Frames.{addr_of, is_data}
+use Rattle.exchanges.specs.Downlinks.{down_of, fits_at, has_fitting_item, has_number, rx1_rate, wants_downlink}
+use Rattle.exchanges.specs.Frames.{addr_of, is_data}
 use Rattle.ns_core.specs.Own.{own_address, own_context, own_with, waking}
 use Rattle.ns_core.specs.Payloads.{has_8, is_under, is_used, queue_of}
 use Rattle.ns_core.specs.Replies.{up_of}
 use Rattle.ns_core.specs.Speakers.{Speaker, context_at, count_of, in_slot, keys_of, name_of, speaker_at, speaker_of, speaker_with, valid_under}
-use Rattle.ns_core.specs.declared.valid.Count.{Count}
+use Rattle.exchanges.specs.declared.valid.Count.{Count}
 use Rattle.ns_core.proofs.Cases.{IsActivation, IsPayload, IsUplink}
-use Rattle.ns_core.proofs.Counting.{counts_above}
+use Rattle.exchanges.proofs.Counting.{counts_above}
 use Rattle.roam_core.specs.Desk.{IsStateOf, Named, named}
 use Rattle.roam_core.proofs.Stepping.{above, next_above, none_valid, used_fits}
 use Rattle.roam_core.proofs.Waking.{other-wake}

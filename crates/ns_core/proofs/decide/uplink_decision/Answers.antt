@@ -5,7 +5,7 @@ use Rattle.key_vault.specs.Table.{nwk_at}
 use Rattle.entry_codec.specs.Machine.{lapse}
 use Rattle.js_core.specs.Frames.{join_up_of, wrong_size}
 use Rattle.js_core.specs.Home.{sender_found}
-use Rattle.ns_core.specs.Frames.{addr_of, is_data}
+use Rattle.exchanges.specs.Frames.{addr_of, is_data}
 use Rattle.ns_core.specs.Heard.{Data, Join}
 use Rattle.ns_core.specs.Speakers.{speaker_of}
 use Rattle.ns_core.proofs.Rules.{comes, decided_as, frame_said, heard_data, heard_join, size_said}

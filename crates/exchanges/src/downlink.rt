@@ -4,10 +4,10 @@ ghost use Rattle.std.specs.Prelude.{◌≡◌, ◌≤◌, length, option_map, If
 ghost use Rattle.std.specs.Prelude.{[]};
 ghost use Rattle.data_frames.specs.DataForms as data_forms;
 ghost use Rattle.data_frames.specs.Downlinks.{downlink_of};
-ghost use Rattle.ns_core.specs.Downlinks.{ack_of, down_fields, down_of, fields_of, fits_at};
-ghost use Rattle.ns_core.specs.Downlinks.{has_fitting_item, payload_limit, rx1_rate, text_under};
-ghost use Rattle.ns_core.specs.Downlinks.{wants_downlink};
-ghost use Rattle.ns_core.specs.Frames.{HasFields};
+ghost use Rattle.exchanges.specs.Downlinks.{ack_of, down_fields, down_of, fields_of, fits_at};
+ghost use Rattle.exchanges.specs.Downlinks.{has_fitting_item, payload_limit, rx1_rate, text_under};
+ghost use Rattle.exchanges.specs.Downlinks.{wants_downlink};
+ghost use Rattle.exchanges.specs.Frames.{HasFields};
 
 use contexts::{Context, Item, first_item};
 use data_frames::{DataUp, Down, write_down};
@@ -121,7 +121,7 @@ fn fields_of(context: &Context, ack: Option<u32>, down: Downlink) -> Option<Down
 /// Which downlink answers an uplink of this counter at this rate, and its frame under the session's
 /// keys, where there is one.
 #[tactic(auto, unfolding(crate::specs::Downlinks::down_fields))]
-pub(crate) fn downlink(
+pub fn downlink(
     alloc: Global,
     keys: &SessionKeys,
     context: &Context,

@@ -1,6 +1,6 @@
 use Rattle.std.proofs.Common.{rules, ◌≡◌, ◌<◌, ◌^◌, ℕ, Some}
-use Rattle.ns_core.proofs.Counting.{counter_is}
-use Rattle.ns_core.proofs.valid.counter.Goals as goal
+use Rattle.exchanges.proofs.Counting.{counter_is}
+use Rattle.exchanges.proofs.valid.counter.Goals as goal
 
 pub returns : goal.returns
 returns c =

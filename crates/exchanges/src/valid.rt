@@ -2,8 +2,8 @@
 
 ghost use Rattle.std.specs.Prelude.{◌≡◌};
 ghost use Rattle.data_frames.specs.DataForms.{fields_of};
-ghost use Rattle.ns_core.specs.Frames.{HasFields};
-ghost use Rattle.ns_core.specs.Valid.{channel_of, conf_of, full_count, up_valid};
+ghost use Rattle.exchanges.specs.Frames.{HasFields};
+ghost use Rattle.exchanges.specs.Valid.{channel_of, conf_of, full_count, up_valid};
 
 use contexts::Context;
 use data_frames::{DataUp, full_count, mic_up_ok};
@@ -51,7 +51,7 @@ fn channel_of(
 /// The full counter and the channel of an uplink under these keys, where it is valid over the
 /// context.
 #[tactic(auto, unfolding(crate::specs::Valid::up_valid))]
-pub(crate) fn up_valid(
+pub fn up_valid(
     keys: &SessionKeys,
     context: &Context,
     up: &DataUp<'_>,

@@ -10,11 +10,11 @@ use Rattle.data_frames.specs.DataForms.{fields_of}
 use Rattle.data_frames.specs.Mics.{Fits, IsChannel, up_mic, without_mic}
 use Rattle.data_frames.specs.declared.uplink.DataUp.{DataUp}
 use Rattle.data_frames.proofs.Halves.{enabled_low}
-use Rattle.ns_core.specs.Frames.{HasFields, acks, wire_of}
-use Rattle.ns_core.specs.Valid.{IsValid, ValidUplinks, channel_of, conf_of, counted, first_count, fits_on, full_count, has_mic, sends, up_valid, valid_at}
-use Rattle.ns_core.specs.declared.valid.Count.{Count}
-use Rattle.ns_core.proofs.Least.{IsLeast, found, least_is, none_is}
-use Rattle.ns_core.proofs.Reading.{data_read}
+use Rattle.exchanges.specs.Frames.{HasFields, acks, wire_of}
+use Rattle.exchanges.specs.Valid.{IsValid, ValidUplinks, channel_of, conf_of, counted, first_count, fits_on, full_count, has_mic, sends, up_valid, valid_at}
+use Rattle.exchanges.specs.declared.valid.Count.{Count}
+use Rattle.exchanges.proofs.Least.{IsLeast, found, least_is, none_is}
+use Rattle.exchanges.proofs.Reading.{data_read}
 
 -- ---- the counter
 

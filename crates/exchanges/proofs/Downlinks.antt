@@ -5,7 +5,7 @@ use Rattle.contexts.specs.Queue.{first_in, first_of, without_first}
 use Rattle.contexts.specs.declared.context.Context.{Context}
 use Rattle.contexts.specs.declared.context.Item.{Item}
 use Rattle.entries.specs.declared.change.Downlink.TheVariants.{Empty, FirstItem}
-use Rattle.ns_core.specs.Downlinks.{is_pending}
+use Rattle.exchanges.specs.Downlinks.{is_pending}
 
 -- an empty downlink leaves all items
 pub waits_yet : (c : Context) → is_pending Empty c ≡ nat_lt 0 (length c.queue.items)

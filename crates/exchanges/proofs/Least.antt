@@ -1,7 +1,7 @@
 -- The least number that passes a test.
 use Rattle.std.proofs.Common.{◌≡◌, ℕ, zero, suc, ◌+◌, ◌<◌, ◌≤◌, Bool, true, false, cond, Some, None, refl, sym, ap, ◌∙◌, arith, inl, inr}
 use Rattle.std.proofs.lemmas.Bool.{cases_lt, false≢true}
-use Rattle.ns_core.specs.Least.{least_from}
+use Rattle.exchanges.specs.Least.{least_from}
 
 -- a number passes, and none before it from n on
 pub record IsLeast (test : ℕ → Bool) (n k : ℕ) : Type 0 where

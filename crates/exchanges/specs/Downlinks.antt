@@ -11,7 +11,7 @@ use Rattle.data_frames.specs.Downlinks.{down_text}
 use Rattle.entries.specs.declared.change.Downlink.{Downlink}
 use Rattle.entries.specs.declared.change.Downlink.TheVariants.{Nothing, Empty, FirstItem}
 use Rattle.entry_codec.specs.Devices.{answered}
-use Rattle.ns_core.specs.Frames.{asks_for_downlink, is_confirmed}
+use Rattle.exchanges.specs.Frames.{asks_for_downlink, is_confirmed}
 
 -- ---- the first receive window
 

@@ -6,7 +6,7 @@ use Rattle.wire_ids.specs.declared.address.DevAddr.{DevAddr}
 use Rattle.wire_ids.specs.declared.faults.FrameFault.{FrameFault}
 use Rattle.data_frames.specs.DataForms.{Uplink, bit, data_fault, up_message, up_mhdr}
 use Rattle.data_frames.proofs.Spelling.{form_has_no_fault}
-use Rattle.ns_core.specs.Frames.{DataFramesRead, acks, addr_of, asks_for_downlink, is_confirmed, is_data, mic_of, wire_of}
+use Rattle.exchanges.specs.Frames.{DataFramesRead, acks, addr_of, asks_for_downlink, is_confirmed, is_data, mic_of, wire_of}
 
 abbrev dev_addr : ℕ → DevAddr
 dev_addr n = record { 0 = n }

@@ -7,9 +7,9 @@ use Rattle.data_frames.specs.Counts.{IsFullCount}
 use Rattle.data_frames.specs.DataForms.{DataForm, fields_of}
 use Rattle.data_frames.specs.Mics.{IsChannel, up_mic, without_mic}
 use Rattle.data_frames.specs.declared.uplink.DataUp.{DataUp}
-use Rattle.ns_core.specs.Frames.{acks, addr_of, mic_of, wire_of}
-use Rattle.ns_core.specs.Least.{least_from}
-use Rattle.ns_core.specs.declared.valid.Count.{Count}
+use Rattle.exchanges.specs.Frames.{acks, addr_of, mic_of, wire_of}
+use Rattle.exchanges.specs.Least.{least_from}
+use Rattle.exchanges.specs.declared.valid.Count.{Count}
 
 -- ---- the counter
 

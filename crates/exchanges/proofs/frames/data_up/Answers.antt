@@ -1,6 +1,6 @@
 use Rattle.std.proofs.Common.{sym}
-use Rattle.ns_core.proofs.Reading.{data_read, no_data}
-use Rattle.ns_core.proofs.frames.data_up.Goals as goal
+use Rattle.exchanges.proofs.Reading.{data_read, no_data}
+use Rattle.exchanges.proofs.frames.data_up.Goals as goal
 
 pub returns-in-Ok-clause-form : goal.returns-in-Ok-clause-form
 returns-in-Ok-clause-form c = sym (data_read _ _ c.in-Ok.ensures.form).form

@@ -1,6 +1,6 @@
 use Rattle.std.proofs.Common.{rules, ◌<◌}
-use Rattle.ns_core.proofs.Counting.{channel_of_is}
-use Rattle.ns_core.proofs.valid.channel_of.Goals as goal
+use Rattle.exchanges.proofs.Counting.{channel_of_is}
+use Rattle.exchanges.proofs.valid.channel_of.Goals as goal
 
 pub returns : goal.returns
 returns c =

@@ -1,0 +1,4 @@
+pub mod Least
+pub mod Reading
+pub mod Counting
+pub mod Downlinks

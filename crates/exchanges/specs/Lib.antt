@@ -1,0 +1,4 @@
+pub mod Least
+pub mod Frames
+pub mod Valid
+pub mod Downlinks

@@ -1,14 +1,17 @@
 // What a join server can't do without, as a floor for `lwdesk answer` on JoinReq lines: one thread, OpenSSL's AES, no
-// JSON library, no check of a member, no journal. It reads lines in exactly the form in which bench/answer writes them,
-// checks each MIC, gives each device its JoinNonces, and writes the same JoinAns byte for byte, with the three keys
-// wrapped for network 000014. Device i has the DevEUI 70b3d57ed0001000 + i and eight times the two bytes of i as NwkKey.
+// JSON library, no check of a member. It reads lines in exactly the form in which bench/answer writes them, checks each
+// MIC, gives each device its JoinNonces, and writes the same JoinAns byte for byte, with the three keys wrapped for
+// network 000014. Device i has the DevEUI 70b3d57ed0001000 + i and eight times the two bytes of i as NwkKey.
+// With a file's name it keeps each line and its answer there before it answers, by the six calls of a journal's append.
 // Build: cc -O2 floor_join.c -lcrypto
 #define OPENSSL_SUPPRESS_DEPRECATED
+#include <fcntl.h>
 #include <openssl/aes.h>
 #include <stdint.h>
 #include <stdio.h>
 #include <stdlib.h>
 #include <string.h>
+#include <unistd.h>
 
 #define DEVICES 4097
 
@@ -124,7 +127,34 @@ static char *answer(const AES_KEY *kek, const char *line, char *out) {
     return out + sprintf(put_hex(out, big, 3), "\",\"TransactionID\":%u}\n", transaction) + 6;
 }
 
-int main(void) {
+static void put_at(int file, const void *bytes, size_t count, off_t at) {
+    if (pwrite(file, bytes, count, at) != (ssize_t)count) exit(1);
+}
+
+static void sync_of(int file) {
+    if (fdatasync(file)) exit(1);
+}
+
+// A record behind the gate at `end`: the line and its answer, to which the end moves.
+static void keep(int file, off_t *end, const char *line, size_t length, const char *out, size_t count) {
+    static char record[8192];
+    static const uint8_t whole = 1, shut = 0;
+    uint8_t field[4];
+    uint32_t size = length + count;
+    if (size > sizeof record) exit(1);
+    for (int i = 0; i < 4; i++) field[i] = size >> (24 - 8 * i);
+    memcpy(record, line, length);
+    memcpy(record + length, out, count);
+    put_at(file, field, 4, *end + 1);
+    put_at(file, record, size, *end + 5);
+    put_at(file, &shut, 1, *end + 5 + size);
+    sync_of(file);
+    put_at(file, &whole, 1, *end);
+    sync_of(file);
+    *end += 5 + size;
+}
+
+int main(int argc, char **argv) {
     static const uint8_t kek_bytes[16] = {0, 1, 2, 3, 4, 5, 6, 7, 8, 9, 10, 11, 12, 13, 14, 15};
     AES_KEY kek;
     AES_set_encrypt_key(kek_bytes, 128, &kek);
@@ -132,10 +162,15 @@ int main(void) {
         last_nonce[i] = -1;
         for (int k = 0; k < 16; k++) nwk_key[i][k] = k % 2 ? i : i >> 8;
     }
+    int journal = argc > 1 ? open(argv[1], O_RDWR | O_CREAT | O_TRUNC, 0600) : -1;
+    off_t last = 16;
+    if (argc > 1) put_at(journal, "LWDESK-JOURNAL-1", 17, 0);
     char *line = NULL, out[2048];
     size_t room = 0;
-    while (getline(&line, &room, stdin) > 0) {
+    ssize_t length;
+    while ((length = getline(&line, &room, stdin)) > 0) {
         char *end = answer(&kek, line, out);
+        if (end && argc > 1) keep(journal, &last, line, length, out, end - out);
         if (end) fwrite(out, 1, end - out, stdout);
         else puts("refused");
     }

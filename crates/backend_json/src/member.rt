@@ -39,7 +39,7 @@ pub(crate) enum Key {
 
 impl Key {
     /// The path by which a fault names it.
-    #[tactic(auto, unfolding(crate::specs::Members::path_of))]
+    #[tactic(auto, unfolding(crate::specs::Members::place_of))]
     pub(crate) fn path(self) -> &'static str
         ensures { result.now ≡ path_of self }
     {

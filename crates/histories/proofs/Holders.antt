@@ -17,7 +17,7 @@ use Rattle.entry_codec.specs.Fits.{can_answer, can_hear, fits_slots, fits_up, is
 use Rattle.entry_codec.specs.Index.{device_number, names}
 use Rattle.entry_codec.specs.LookUps.{device_slots, slots_of, visitor_of, visitor_slots}
 use Rattle.entry_codec.specs.Machine.{Machine, holder_of, home_or_visitor, in_visitor, is_dev, is_home, is_visitor, on_slots, place_of, visitor_named, visitor_number}
-use Rattle.entry_codec.specs.Sound.{AreSlots, IsGivenBefore, IsSeededTo, IsSound, IsSoundDevice, IsSoundVisitor}
+use Rattle.entry_codec.specs.Sound.{AreSlots, IsGivenBefore, IsSeededTo}
 use Rattle.entry_codec.specs.declared.device.Device.{Device}
 use Rattle.entry_codec.specs.declared.parties.Holder.{Holder}
 use Rattle.entry_codec.specs.declared.parties.Holder.TheVariants as holder

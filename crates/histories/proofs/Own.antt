@@ -40,7 +40,7 @@ use Rattle.entry_codec.specs.Devices.{called_back, heard, in_slots, joined, kept
 use Rattle.entry_codec.specs.Empty.{empty, new_device}
 use Rattle.entry_codec.specs.Fits.{can_queue, fits, fits_change, fits_event, fits_join, fits_lending, fits_rejoin, takes}
 use Rattle.entry_codec.specs.LookUps.{is_network, is_sender}
-use Rattle.entry_codec.specs.Machine.{Machine, after, asked, closed, entered, given_context, granted_by, holder_of, in_visitor, is_visitor, item_of, lapse, lent_to, new_visitor, on_change, on_device, on_dropped, on_effect, on_event, on_place, on_slots, on_visitor, place_of, ready, renewed, visit, visitor_number, visits, wake, wakes, with_count, with_rejoin}
+use Rattle.entry_codec.specs.Machine.{Machine, after, asked, closed, given_context, granted_by, holder_of, in_visitor, is_visitor, item_of, lapse, lent_to, new_visitor, on_change, on_device, on_dropped, on_effect, on_event, on_place, on_slots, on_visitor, place_of, ready, renewed, visit, visitor_number, visits, wakes, with_count, with_rejoin}
 use Rattle.entry_codec.specs.Ordered.{IsRisingBy, IsRisingFrom}
 use Rattle.entry_codec.specs.Sound.{AreSlots, IsGivenBefore, IsSeededTo}
 use Rattle.entry_codec.specs.declared.device.Device.{Device}

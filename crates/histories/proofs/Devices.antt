@@ -16,6 +16,7 @@ use Rattle.entries.specs.declared.used_seed.UsedSeed.{UsedSeed}
 use Rattle.entries.specs.declared.used_seed.UsedSeed.TheVariants.{Rejoin0, Rejoin1, Rejoin2}
 use Rattle.entry_codec.specs.Devices.{called_back, in_slots, joined, kept_count, lapsed, lent_out, marked, queued, rejoined, seed_of, stepped, with_grant, with_session}
 use Rattle.entry_codec.specs.Fits.{can_queue, takes}
+use Rattle.entry_codec.specs.Sound.{IsSeededTo}
 use Rattle.entry_codec.specs.declared.device.Device.{Device}
 use Rattle.entry_codec.specs.declared.device.Granted.{Granted}
 use Rattle.entry_codec.specs.declared.device.LentTo.{LentTo}
@@ -62,12 +63,16 @@ past-with_grant k n g d h = record { given = h.given; slots = h.slots }
 
 -- ---- joins and rejoins
 
+pub seed_was_given : (last : ℕ) (o : Origin) → IsSeededTo last o → WasGiven last o
+seed_was_given last (Seeded seed) h = h
+seed_was_given last (Given number keys) h = tt
+
 given-more : (a b : ℕ) → a ≤ b → (o : Origin) → WasGiven a o → WasGiven b o
 given-more a b le (Seeded seed) h = omega (arith, le, h)
 given-more a b le (Given number keys) h = tt
 
 -- a seed with a higher JoinNonce is a new one
-seeds_apart : (last : ℕ) (seed : Seed) → last < seed.nonce → (o : Origin) → WasGiven last o → Seeded seed ≡ o → ⊥
+pub seeds_apart : (last : ℕ) (seed : Seed) → last < seed.nonce → (o : Origin) → WasGiven last o → Seeded seed ≡ o → ⊥
 seeds_apart last seed lt (Seeded other) h e = apart (ap nonce_in e)
   where
     nonce_in : Origin → ℕ

@@ -24,16 +24,15 @@ use Rattle.entry_codec.specs.Issues.{issues, one_more}
 use Rattle.entry_codec.specs.LookUps.{at_home, is_network, is_sender}
 use Rattle.entry_codec.specs.Machine.{Machine, after, granted_by, holder_of, on_change, on_event, on_place, on_slots, place_of, ready}
 use Rattle.entry_codec.specs.Replay.{AllFit}
-use Rattle.entry_codec.specs.Sound.{IsSound, OnSlot}
+use Rattle.entry_codec.specs.Sound.{OnSlot}
 use Rattle.entry_codec.specs.declared.device.Device.{Device}
 use Rattle.entry_codec.specs.declared.device.Granted.{Granted}
 use Rattle.entry_codec.specs.declared.parties.Holder.{Holder}
 use Rattle.entry_codec.specs.declared.parties.Holder.TheVariants as holder
 use Rattle.entry_codec.proofs.Bools.{and_right}
 use Rattle.entry_codec.proofs.Marks.{AllFitting, differ}
-use Rattle.entry_codec.proofs.Sound.{sound-after, sound-ready}
 use Rattle.entry_codec.proofs.SoundDevices.{same-with_grant}
-use Rattle.entry_codec.proofs.SoundEmpty.{names-empty, sound-empty}
+use Rattle.entry_codec.proofs.SoundEmpty.{names-empty}
 use Rattle.entry_codec.proofs.Stays.{fits_its_event, names-after, stays-ready}
 use Rattle.histories.specs.Downlinks.{AFCntDown, ContextCounter, DownlinkNumbersOnce, change_has_down, change_number, counter_of, event_has_down, event_number, has_down, heard_under, is_down, issued, number_at, number_in, up_number}
 use Rattle.histories.proofs.Above.{GoesPast, rising}
@@ -41,6 +40,7 @@ use Rattle.histories.proofs.Contexts.{IsNumber, PastIn, is_number, past-woken}
 use Rattle.histories.proofs.Devices.{past-with_grant}
 use Rattle.histories.proofs.Elements.{AreOnce, changes-commute, found_once}
 use Rattle.histories.proofs.Holders.{HeardAt, heard_at, is_held, past_held, past_to}
+use Rattle.histories.proofs.Own.{Own, own-after, own-empty, own-ready}
 use Rattle.histories.proofs.Past.{Past, past-after, past-entered, past-on_place, past-ready}
 
 -- ---- an uplink's downlink
@@ -58,9 +58,9 @@ up_above u m k n next fit past e =
     let slots = past-woken k n u.pending at.slots (past_held k n u.dev_eui m (holder_of u.dev_eui m) at.slots is.name past (is_held u.dev_eui m at.slots at.there)) in
     is.above n (subst (λ (o : Option Context). OnSlot (PastIn k n) o) at.active slots.active is.origin)
 
-up_to : (u : Uplink) (m : Machine) (k : ContextCounter) (n : ℕ) → IsSound m → AreOnce (names m.devices) → IsTrue (fits_up u m) → up_number u m ≡ Some (k, n)
+up_to : (u : Uplink) (m : Machine) (k : ContextCounter) (n : ℕ) → Own m.entries m → AreOnce (names m.devices) → IsTrue (fits_up u m) → up_number u m ≡ Some (k, n)
     → Past k n (on_slots (holder_of u.dev_eui m) (heard u.pending u.count u.frame u.down) m)
-up_to u m k n sound once fit e = let at = heard_at u m fit in past_to u m k n sound once at (up_is u m at k n e)
+up_to u m k n own once fit e = let at = heard_at u m fit in past_to u m k n own once at (up_is u m at k n e)
 
 grant-commutes : (who : Option Holder) (o : Option ℕ) (f : Slots → Slots) (g : Granted) (m : Machine) → on_slots who f (on_place o (with_grant g) m) ≡ on_place o (with_grant g) (on_slots who f m)
 unfolding with_grant
@@ -94,15 +94,15 @@ change_above sender (change.Passive p) m k n next fit past e = up_above p.up m k
 change_above sender (change.Queue q) m k n next fit past e = absurd cc
 change_above sender (change.Dropped d) m k n next fit past e = absurd cc
 
-change_to : (sender : Sender) (c : Change) (m : Machine) (k : ContextCounter) (n : ℕ) → IsSound m → AreOnce (names m.devices) → IsTrue (fits_change sender c m) → change_number c m ≡ Some (k, n) → Past k n (on_change sender c m)
+change_to : (sender : Sender) (c : Change) (m : Machine) (k : ContextCounter) (n : ℕ) → Own m.entries m → AreOnce (names m.devices) → IsTrue (fits_change sender c m) → change_number c m ≡ Some (k, n) → Past k n (on_change sender c m)
 unfolding fits_change on_change
-change_to sender (change.Join j) m k n sound once fit e = absurd cc
-change_to sender (change.Rejoin j) m k n sound once fit e = absurd cc
-change_to sender (change.Lent l) m k n sound once fit e = absurd cc
-change_to sender (change.Up u) m k n sound once fit e = up_to u m k n sound once fit e
-change_to sender (change.Passive p) m k n sound once fit e = passive_to p m k n (up_to p.up m k n sound once (passive_fits p m fit) e)
-change_to sender (change.Queue q) m k n sound once fit e = absurd cc
-change_to sender (change.Dropped d) m k n sound once fit e = absurd cc
+change_to sender (change.Join j) m k n own once fit e = absurd cc
+change_to sender (change.Rejoin j) m k n own once fit e = absurd cc
+change_to sender (change.Lent l) m k n own once fit e = absurd cc
+change_to sender (change.Up u) m k n own once fit e = up_to u m k n own once fit e
+change_to sender (change.Passive p) m k n own once fit e = passive_to p m k n (up_to p.up m k n own once (passive_fits p m fit) e)
+change_to sender (change.Queue q) m k n own once fit e = absurd cc
+change_to sender (change.Dropped d) m k n own once fit e = absurd cc
 
 event_above : (x : Event) (m : Machine) (k : ContextCounter) (n next : ℕ) → IsTrue (fits_event x m) → Past k n m → event_number x m ≡ Some (k, next) → n < next
 unfolding fits_event
@@ -114,33 +114,33 @@ event_above (event.Told t) m k n next fit past e = absurd cc
 event_above (event.Suspend i) m k n next fit past e = absurd cc
 event_above (event.Resume i) m k n next fit past e = absurd cc
 
-event_to : (x : Event) (m : Machine) (k : ContextCounter) (n : ℕ) → IsSound m → AreOnce (names m.devices) → IsTrue (fits_event x m) → event_number x m ≡ Some (k, n) → Past k n (on_event x m)
+event_to : (x : Event) (m : Machine) (k : ContextCounter) (n : ℕ) → Own m.entries m → AreOnce (names m.devices) → IsTrue (fits_event x m) → event_number x m ≡ Some (k, n) → Past k n (on_event x m)
 unfolding fits_event on_event
-event_to event.Opened m k n sound once fit e = absurd cc
-event_to (event.Tables text) m k n sound once fit e = absurd cc
-event_to (event.Kept r c) m k n sound once fit e = change_to r.sender c m k n sound once (and_right (nat_lt 0 m.entries && is_sender r.sender m) (fits_change r.sender c m) fit) e
-event_to (event.Asked a) m k n sound once fit e = absurd cc
-event_to (event.Told t) m k n sound once fit e = absurd cc
-event_to (event.Suspend i) m k n sound once fit e = absurd cc
-event_to (event.Resume i) m k n sound once fit e = absurd cc
+event_to event.Opened m k n own once fit e = absurd cc
+event_to (event.Tables text) m k n own once fit e = absurd cc
+event_to (event.Kept r c) m k n own once fit e = change_to r.sender c m k n own once (and_right (nat_lt 0 m.entries && is_sender r.sender m) (fits_change r.sender c m) fit) e
+event_to (event.Asked a) m k n own once fit e = absurd cc
+event_to (event.Told t) m k n own once fit e = absurd cc
+event_to (event.Suspend i) m k n own once fit e = absurd cc
+event_to (event.Resume i) m k n own once fit e = absurd cc
 
 -- ---- entries from a state
 
-record FitsSound (m : Machine) (e : Entry) : Type 0 where
+record FitsOwn (m : Machine) (e : Entry) : Type 0 where
   pub fits : IsTrue (fits m e)
-  pub sound : IsSound m
+  pub own : Own m.entries m
   pub once : AreOnce (names m.devices)
 
-all_sound : (es : List Entry) (m : Machine) → IsSound m → AreOnce (names m.devices) → AllFit m es → AllFitting FitsSound after m es
-all_sound [] m sound once fit = tt
-all_sound (e ∷ es) m sound once fit =
-    (record { fits = fit.0; sound = sound; once = once }, all_sound es (after m e) (sound-after m e fit.0 sound) (subst AreOnce (sym (names-after m e)) once) fit.1)
+all_own : (es : List Entry) (m : Machine) → Own m.entries m → AreOnce (names m.devices) → AllFit m es → AllFitting FitsOwn after m es
+all_own [] m own once fit = tt
+all_own (e ∷ es) m own once fit =
+    (record { fits = fit.0; own = own; once = once }, all_own es (after m e) (own-after m e fit.0 own) (subst AreOnce (sym (names-after m e)) once) fit.1)
 
-goes_past : GoesPast FitsSound after issued Past
+goes_past : GoesPast FitsOwn after issued Past
 goes_past = record {
   above = λ m e k n next f past some. event_above e.event (ready m e) k n next (fits_its_event m e f.fits) (past-ready k n m e past) some;
   to = λ m e k n f some. past-entered k n e.moment.0 (on_event e.event (ready m e))
-      (event_to e.event (ready m e) k n (sound-ready m e f.sound) (subst AreOnce (sym (stays-ready m e).names) f.once) (fits_its_event m e f.fits) some);
+      (event_to e.event (ready m e) k n (own-ready m e f.own) (subst AreOnce (sym (stays-ready m e).names) f.once) (fits_its_event m e f.fits) some);
   stays = λ m e k n f past. past-after k n m e f.fits past;
 }
 
@@ -192,7 +192,7 @@ each_numbered (e ∷ es) m fit =
 -- ---- all
 
 pub downlink_numbers_once : DownlinkNumbersOnce
-downlink_numbers_once c es few_devices few_networks places fit =
+downlink_numbers_once c es places fit =
     let once = subst AreOnce (sym (names-empty c)) (found_once c.devices places) in
-    let above = rising FitsSound after issued Past goes_past es (empty c) (all_sound es (empty c) (sound-empty c few_devices few_networks) once fit) in
+    let above = rising FitsOwn after issued Past goes_past es (empty c) (all_own es (empty c) (own-empty c) once fit) in
     record { once = differ (issues after issued (empty c) es) above; rising = above; each = each_numbered es (empty c) fit }

@@ -17,7 +17,7 @@ use Rattle.entry_codec.specs.Fits.{can_answer, can_hear, fits_slots, fits_up, is
 use Rattle.entry_codec.specs.Index.{device_number, names}
 use Rattle.entry_codec.specs.LookUps.{device_slots, slots_of, visitor_of, visitor_slots}
 use Rattle.entry_codec.specs.Machine.{Machine, holder_of, home_or_visitor, in_visitor, is_dev, is_home, is_visitor, on_slots, place_of, visitor_named, visitor_number}
-use Rattle.entry_codec.specs.Sound.{AreSlots, IsGivenBefore, IsSeededTo, IsSound, IsSoundDevice, IsSoundVisitor}
+use Rattle.entry_codec.specs.Sound.{AreSlots, IsGivenBefore, IsSeededTo}
 use Rattle.entry_codec.specs.declared.device.Device.{Device}
 use Rattle.entry_codec.specs.declared.parties.Holder.{Holder}
 use Rattle.entry_codec.specs.declared.parties.Holder.TheVariants as holder
@@ -27,8 +27,9 @@ use Rattle.entry_codec.proofs.Ordered.{some_is}
 use Rattle.entry_codec.proofs.Places.{find-place}
 use Rattle.histories.specs.Downlinks.{ContextCounter}
 use Rattle.histories.proofs.Contexts.{IsNumber, PastSlots, origin_of, past-others, past-own}
-use Rattle.histories.proofs.Devices.{PastDevice, PastOf, WasGiven}
+use Rattle.histories.proofs.Devices.{PastDevice, PastOf, WasGiven, seed_was_given}
 use Rattle.histories.proofs.Elements.{AreOnce, all_but, element, place_passes, rising_once}
+use Rattle.histories.proofs.Own.{Own, OwnDevice, OwnVisitor, keys_before}
 use Rattle.histories.proofs.Past.{CameBefore, Past, PastVisitor}
 
 -- ---- by name
@@ -142,23 +143,15 @@ seed_given last entries (Given x y) seeded (Given number keys) given e = seeded
 given_seed : (entries last : ℕ) (own : Origin) → IsGivenBefore entries own → (o : Origin) → IsSeededTo last o → o ≡ own → ⊥
 given_seed entries last own given o seeded e = seed_given last entries o seeded own given (sym e)
 
-seed_was_given : (last : ℕ) (o : Origin) → IsSeededTo last o → WasGiven last o
-seed_was_given last (Seeded seed) h = h
-seed_was_given last (Given number keys) h = tt
-
 seed_before : (last entries : ℕ) (o : Origin) → IsSeededTo last o → CameBefore entries o
 seed_before last entries (Seeded seed) h = tt
 seed_before last entries (Given number keys) h = absurd h
-
-keys_before : (entries : ℕ) (o : Origin) → IsGivenBefore entries o → CameBefore entries o
-keys_before entries (Seeded seed) h = tt
-keys_before entries (Given number keys) h = h
 
 no_seed : (entries last : ℕ) (o : Origin) → IsGivenBefore entries o → WasGiven last o
 no_seed entries last (Seeded seed) h = absurd h
 no_seed entries last (Given number keys) h = tt
 
-module _ (u : Uplink) (m : Machine) (k : ContextCounter) (n : ℕ) (sound : IsSound m) (once : AreOnce (names m.devices)) (at : HeardAt u m) (is : IsNumber u.down u.dev_eui at.context k n) where
+module _ (u : Uplink) (m : Machine) (k : ContextCounter) (n : ℕ) (own : Own m.entries m) (once : AreOnce (names m.devices)) (at : HeardAt u m) (is : IsNumber u.down u.dev_eui at.context k n) where
   abbrev pub step : Slots → Slots
   step s = heard u.pending u.count u.frame u.down s
 
@@ -170,9 +163,9 @@ module _ (u : Uplink) (m : Machine) (k : ContextCounter) (n : ℕ) (sound : IsSo
 
   of_device : IsDevice u.dev_eui m (holder_of u.dev_eui m) at.slots → Past k n (on_slots (holder_of u.dev_eui m) step m)
   of_device h =
-      let own = element (IsSoundDevice m.senders) m.devices h.place h.device sound.devices h.there in
+      let has : OwnDevice h.device = element OwnDevice m.devices h.place h.device own.devices h.there in
       let last = h.device.join_nonce in
-      let slots : AreSlots (IsSeededTo last) at.slots = subst (λ (x : Slots). AreSlots (IsSeededTo last) x) h.slots own.slots in
+      let slots : AreSlots (IsSeededTo last) at.slots = subst (λ (x : Slots). AreSlots (IsSeededTo last) x) h.slots has in
       let seeded : IsSeededTo last k.origin = subst (IsSeededTo last) is.origin (origin_of (IsSeededTo last) u.pending u.down u.dev_eui at.slots at.context k n slots at.active) in
       let past : PastSlots k n (step at.slots) = past-own (IsSeededTo last) u.pending u.down u.dev_eui at.slots at.context k n u.count u.frame slots at.active at.can is in
       let after : PastOf k n (in_slots step h.device) = record { given = seed_was_given last k.origin seeded; slots = subst (λ (x : Slots). PastSlots k n (step x)) (sym h.slots) past } in
@@ -181,24 +174,24 @@ module _ (u : Uplink) (m : Machine) (k : ContextCounter) (n : ℕ) (sound : IsSo
         devices = all_but (PastDevice k n) h.place (in_slots step) m.devices
             (λ j d there apart e. absurd (apart (once j h.place k.dev_eui.0 (device_named j d there ∙ ap Some e) (device_named h.place h.device h.there ∙ ap Some (h.name ∙ ap (λ (x : Eui). x.0) is.name)))))
             (λ d there e. subst (λ (x : Device). PastOf k n (in_slots step x)) (some_is h.device d (sym h.there ∙ there)) after);
-        visitors = all_more (IsSoundVisitor m.entries m.devices) (PastVisitor k n) m.visitors (λ v s e. past-others (IsGivenBefore m.entries) k n v.slots (seed_given last m.entries k.origin seeded) s.slots) sound.visitors;
+        visitors = all_more (OwnVisitor m.entries) (PastVisitor k n) m.visitors (λ v s e. past-others (IsGivenBefore m.entries) k n v.slots (seed_given last m.entries k.origin seeded) s) own.visitors;
       })
 
   of_guest : IsGuest u.dev_eui m (holder_of u.dev_eui m) at.slots → Past k n (on_slots (holder_of u.dev_eui m) step m)
   of_guest h =
-      let own = element (IsSoundVisitor m.entries m.devices) m.visitors h.place h.visitor sound.visitors h.there in
-      let slots : AreSlots (IsGivenBefore m.entries) at.slots = subst (λ (x : Slots). AreSlots (IsGivenBefore m.entries) x) h.slots own.slots in
+      let has : OwnVisitor m.entries h.visitor = element (OwnVisitor m.entries) m.visitors h.place h.visitor own.visitors h.there in
+      let slots : AreSlots (IsGivenBefore m.entries) at.slots = subst (λ (x : Slots). AreSlots (IsGivenBefore m.entries) x) h.slots has in
       let given : IsGivenBefore m.entries k.origin = subst (IsGivenBefore m.entries) is.origin (origin_of (IsGivenBefore m.entries) u.pending u.down u.dev_eui at.slots at.context k n slots at.active) in
       let past : PastSlots k n (step at.slots) = past-own (IsGivenBefore m.entries) u.pending u.down u.dev_eui at.slots at.context k n u.count u.frame slots at.active at.can is in
       subst (λ (who : Option Holder). Past k n (on_slots who step m)) (sym h.is) (record {
         before = keys_before m.entries k.origin given;
-        devices = all_more (IsSoundDevice m.senders) (PastDevice k n) m.devices (λ d s e. record {
+        devices = all_more OwnDevice (PastDevice k n) m.devices (λ d s e. record {
           given = no_seed m.entries d.join_nonce k.origin given;
-          slots = past-others (IsSeededTo d.join_nonce) k n d.slots (given_seed m.entries d.join_nonce k.origin given) s.slots;
-        }) sound.devices;
+          slots = past-others (IsSeededTo d.join_nonce) k n d.slots (given_seed m.entries d.join_nonce k.origin given) s;
+        }) own.devices;
         visitors = subst (λ (o : Option ℕ). AllByRecursion (PastVisitor k n) (changed_there (in_visitor step) m.visitors o)) (sym h.found)
             (all_but (PastVisitor k n) h.place (in_visitor step) m.visitors
-            (λ j v there apart e. absurd (apart (rising_once 0 (map visitor_number m.visitors) sound.visitors_in_order j h.place k.dev_eui.0 (visitor_named_at j v there ∙ ap Some e) (visitor_named_at h.place h.visitor h.there ∙ ap Some (h.name ∙ ap (λ (x : Eui). x.0) is.name)))))
+            (λ j v there apart e. absurd (apart (rising_once 0 (map visitor_number m.visitors) own.in_order j h.place k.dev_eui.0 (visitor_named_at j v there ∙ ap Some e) (visitor_named_at h.place h.visitor h.there ∙ ap Some (h.name ∙ ap (λ (x : Eui). x.0) is.name)))))
             (λ v there e. subst (λ (x : Visitor). PastSlots k n (step x.slots)) (some_is h.visitor v (sym h.there ∙ there)) (subst (λ (x : Slots). PastSlots k n (step x)) (sym h.slots) past)));
       })
 

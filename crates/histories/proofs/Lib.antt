@@ -4,4 +4,5 @@ pub mod Devices
 pub mod Downlinks
 pub mod Elements
 pub mod Holders
+pub mod Own
 pub mod Past

@@ -63,6 +63,28 @@ before-more : (a b : ℕ) → a ≤ b → (o : Origin) → CameBefore a o → Ca
 before-more a b le (Seeded seed) h = tt
 before-more a b le (Given number keys) h = omega (arith, le, h)
 
+-- ---- new numbers and new keys
+
+pub rises-join : (j : Joined) (m : Machine) (d : Device) → IsTrue (fits_join j m d) → d.join_nonce < j.join_nonce
+rises-join j m d h = ltb-true d.join_nonce j.join_nonce (and_right (is_above j.counter d.dev_nonce) (nat_lt d.join_nonce j.join_nonce) (and_left (is_above j.counter d.dev_nonce && nat_lt d.join_nonce j.join_nonce) (fits_own j.own d m) h))
+
+pub rises-rejoin : (j : Rejoined) (m : Machine) (d : Device) → IsTrue (fits_rejoin j m d) → d.join_nonce < j.join_nonce
+rises-rejoin j m d h = ltb-true d.join_nonce j.join_nonce (and_right (fits_used j.used j.counter d) (nat_lt d.join_nonce j.join_nonce) (and_left (fits_used j.used j.counter d && nat_lt d.join_nonce j.join_nonce) (fits_own j.own d m) h))
+
+pub rises-lend : (l : Lending) (d : Device) → IsTrue (fits_lending l d) → d.join_nonce < l.join_nonce
+rises-lend l d h = ltb-true d.join_nonce l.join_nonce (and_right (fits_step l.used l.counter d) (nat_lt d.join_nonce l.join_nonce) h)
+
+pub keys_apart : (v : NewVisitor) (entries : ℕ) (o : Origin) → CameBefore entries o → Given entries v.keys ≡ o → ⊥
+keys_apart v entries (Seeded seed) h e = absurd cc
+keys_apart v entries (Given number keys) h e = apart (ap number_in e)
+  where
+    number_in : Origin → ℕ
+    number_in (Seeded seed) = 0
+    number_in (Given x y) = x
+
+    apart : entries ≡ number → ⊥
+    apart same = omega (arith, h, same)
+
 -- ---- steps of a state
 
 module _ (k : ContextCounter) (n : ℕ) where
@@ -108,15 +130,6 @@ module _ (k : ContextCounter) (n : ℕ) where
 
   -- ---- changes
 
-  rises-join : (j : Joined) (m : Machine) (d : Device) → IsTrue (fits_join j m d) → d.join_nonce < j.join_nonce
-  rises-join j m d h = ltb-true d.join_nonce j.join_nonce (and_right (is_above j.counter d.dev_nonce) (nat_lt d.join_nonce j.join_nonce) (and_left (is_above j.counter d.dev_nonce && nat_lt d.join_nonce j.join_nonce) (fits_own j.own d m) h))
-
-  rises-rejoin : (j : Rejoined) (m : Machine) (d : Device) → IsTrue (fits_rejoin j m d) → d.join_nonce < j.join_nonce
-  rises-rejoin j m d h = ltb-true d.join_nonce j.join_nonce (and_right (fits_used j.used j.counter d) (nat_lt d.join_nonce j.join_nonce) (and_left (fits_used j.used j.counter d && nat_lt d.join_nonce j.join_nonce) (fits_own j.own d m) h))
-
-  rises-lend : (l : Lending) (d : Device) → IsTrue (fits_lending l d) → d.join_nonce < l.join_nonce
-  rises-lend l d h = ltb-true d.join_nonce l.join_nonce (and_right (fits_step l.used l.counter d) (nat_lt d.join_nonce l.join_nonce) h)
-
   past-heard_in : (u : Uplink) (who : Option Holder) (m : Machine) → Past k n m → Past k n (on_slots who (heard u.pending u.count u.frame u.down) m)
   past-heard_in u who m h = past-on_slots who (heard u.pending u.count u.frame u.down) m (λ s p. past-heard k n u.pending u.count u.frame u.down s p) h
 
@@ -147,17 +160,6 @@ module _ (k : ContextCounter) (n : ℕ) where
   past-rejoin None count m h = h
   past-rejoin (Some dev) None m h = h
   past-rejoin (Some dev) (Some count) m h = past-on_visitor dev (on_active (with_count count.count)) m (λ s p. past-counted k n count.count s p) h
-
-  keys_apart : (v : NewVisitor) (entries : ℕ) (o : Origin) → CameBefore entries o → Given entries v.keys ≡ o → ⊥
-  keys_apart v entries (Seeded seed) h e = absurd cc
-  keys_apart v entries (Given number keys) h e = apart (ap number_in e)
-    where
-      number_in : Origin → ℕ
-      number_in (Seeded seed) = 0
-      number_in (Given x y) = x
-
-      apart : entries ≡ number → ⊥
-      apart same = omega (arith, h, same)
 
   past-visit : (v : NewVisitor) (m : Machine) → Past k n m → AllByRecursion (PastVisitor k n) (visit m.entries v m.visitors)
   unfolding visit

@@ -1,5 +1,5 @@
 -- The numbers of the downlinks in a history (LoRaWAN 1.1, 4.3.1.5).
-use Rattle.std.specs.Prelude.{◌≡◌, ◌≢◌, ℕ, ◌≤◌, List, length, Option, Some, None, option_map, Bool, true, false, AllPairs}
+use Rattle.std.specs.Prelude.{◌≡◌, ◌≢◌, ℕ, List, length, Option, Some, None, option_map, Bool, true, false, AllPairs}
 use Rattle.std.specs.List.{filter}
 use Rattle.wire_ids.specs.declared.eui.Eui.{Eui}
 use Rattle.agreements.specs.LookUps.{AreFound as HasPlaces}
@@ -101,4 +101,4 @@ pub record IssuesOnce (m : Machine) (es : List Entry) : Type 0 where
 
 -- over every list of entries that fit
 abbrev pub DownlinkNumbersOnce : Type 0
-DownlinkNumbersOnce = (c : Config) (es : List Entry) → length c.devices ≤ 4096 → length c.networks ≤ 32 → HasPlaces c.devices → AllFit (empty c) es → IssuesOnce (empty c) es
+DownlinkNumbersOnce = (c : Config) (es : List Entry) → HasPlaces c.devices → AllFit (empty c) es → IssuesOnce (empty c) es

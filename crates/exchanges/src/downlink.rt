@@ -121,7 +121,7 @@ fn fields_of(context: &Context, ack: Option<u32>, down: Downlink) -> Option<Down
 /// Which downlink answers an uplink of this counter at this rate, and its frame under the session's
 /// keys, where there is one.
 #[tactic(auto, unfolding(crate::specs::Downlinks::down_fields))]
-pub fn downlink(
+pub fn downlink_behind(
     alloc: Global,
     keys: &SessionKeys,
     context: &Context,

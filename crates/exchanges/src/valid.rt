@@ -51,12 +51,7 @@ fn channel_of(
 /// The full counter and the channel of an uplink under these keys, where it is valid over the
 /// context.
 #[tactic(auto, unfolding(crate::specs::Valid::up_valid))]
-pub fn up_valid(
-    keys: &SessionKeys,
-    context: &Context,
-    up: &DataUp<'_>,
-    rate: u8,
-) -> Option<Count>
+pub fn up_valid(keys: &SessionKeys, context: &Context, up: &DataUp<'_>, rate: u8) -> Option<Count>
     requires { HasFields up.now.whole.now (fields_of up.now) }
     ensures { result ≡ up_valid keys.now context.now up.now.whole.now rate }
 {

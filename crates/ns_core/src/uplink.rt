@@ -14,7 +14,7 @@ ghost use Rattle.ns_core.specs.Replies.{counted_with, heard_answer, success_at, 
 ghost use Rattle.ns_core.specs.Rules.{uplink_rules_at};
 ghost use Rattle.ns_core.specs.Speakers.{keys_of, speaker_now, speaker_of};
 
-use exchanges::downlink;
+use exchanges::downlink_behind;
 use crate::session::session_of;
 use crate::speaker::{Speaking, Valid, is_duplicate, speaker, valid_of};
 use crate::text::short_copy;
@@ -90,7 +90,7 @@ fn counted_with<'a>(
         (speaker_now speaker.now) (Some valid.now.count)) }
 {
     let Valid { keys, count } = valid;
-    let (down, frame) = downlink(
+    let (down, frame) = downlink_behind(
         alloc,
         keys,
         speaker.context,

@@ -70,7 +70,8 @@ impl Key {
     /// What stands there in a message.
     #[tactic(auto, unfolding(crate::specs::Members::place_of))]
     pub(crate) fn find(self, message: &Value) -> Option<&Value>
-        ensures { option_map (λ v. view v.now) result ≡ found_at (place_of self) (view message.now) }
+        ensures { option_map (λ v. view v.now) result
+            ≡ found_at (place_of self) (view message.now) }
     {
         match self {
             Key::UplinkDataRate => inside(message, "ULMetaData", "DataRate"),

@@ -7,12 +7,12 @@ ghost use Rattle.key_vault.specs.Table.{nwk_at};
 ghost use Rattle.ns_core.specs.Replies.{ns_decided, uplink_decided};
 
 use crate::activation::activation_decision;
-use exchanges::data_up;
 use crate::payload::payload_decision;
 use crate::uplink::data_decision;
 use agreements::Tables;
 use backend_json::{Head, Message, Refusal, Request, UplinkRequest};
 use entry_codec::State;
+use exchanges::data_up;
 use js_core::{JsDecision, join_up, refused, wrong_size};
 use key_vault::{BlockFn, Vault};
 use std::alloc::Global;

@@ -9,11 +9,11 @@ ghost use Rattle.exchanges.specs.Frames.{HasFields};
 ghost use Rattle.ns_core.specs.Speakers.{HasRow, context_at, count_in, count_of, in_slot};
 ghost use Rattle.ns_core.specs.Speakers.{is_duplicate, keys_of, name_of, speaker_now, speaker_of};
 
-use exchanges::{Count, up_valid};
 use agreements::Tables;
 use contexts::{Context, Origin, Slots};
 use data_frames::DataUp;
 use entry_codec::{Holder, LiveContext, State};
+use exchanges::{Count, up_valid};
 use key_vault::{BlockFn, Vault};
 use wire_ids::{DevAddr, Eui, Moment, SessionKeys};
 
@@ -120,8 +120,8 @@ pub(crate) struct Valid {
     pub count: Count,
 }
 
-/// The session's keys, and the full counter and the channel of a frame of the speaker's, where it is
-/// valid.
+/// The session's keys, and the full counter and the channel of a frame of the speaker's, where it
+/// is valid.
 #[tactic(auto, unfolding(crate::specs::Speakers::count_of))]
 pub(crate) fn valid_of<E: BlockFn, D: BlockFn>(
     vault: &Vault<E, D>,

@@ -14,16 +14,15 @@ ghost use Rattle.ns_core.specs.Replies.{counted_with, heard_answer, success_at, 
 ghost use Rattle.ns_core.specs.Rules.{uplink_rules_at};
 ghost use Rattle.ns_core.specs.Speakers.{keys_of, speaker_now, speaker_of};
 
-use exchanges::downlink_behind;
 use crate::session::session_of;
 use crate::speaker::{Speaking, Valid, is_duplicate, speaker, valid_of};
 use crate::text::short_copy;
-use exchanges::Count;
 use agreements::Tables;
 use backend_json::{Answer, Head, Outcome, Refusal, UplinkAnswer, UplinkRequest};
 use data_frames::DataUp;
 use entries::{Change, Downlink, Uplink};
 use entry_codec::State;
+use exchanges::{Count, downlink_behind};
 use js_core::{JsDecision, refused};
 use key_vault::{BlockFn, Vault};
 use std::alloc::Global;
@@ -59,7 +58,8 @@ fn up_of(
     count: &Count,
     down: Downlink,
 ) -> Result<Change, Memory>
-    requires { down ≡ down_of speaker.now.context.now request.now.phy_payload request.now.data_rate }
+    requires { down
+        ≡ down_of speaker.now.context.now request.now.phy_payload request.now.data_rate }
     ensures { IfOk result (λ up. up ≡ up_of (speaker_now speaker.now) request.now count.now) }
 {
     let frame = short_copy(alloc, request.phy_payload.as_slice())?;

@@ -8,6 +8,7 @@ mod frames;
 pub mod laws;
 mod own;
 mod payload;
+mod reply;
 mod session;
 mod speaker;
 mod text;

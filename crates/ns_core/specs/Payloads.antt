@@ -95,9 +95,12 @@ queue_of request device = change.Queue (record {
   payload = request.frm_payload;
 })
 
+abbrev pub queued_with : Head → XmitDataRequest → ℕ → JsDecision
+queued_with head request device = decision.Accept (queued_answer head) (queue_of request device)
+
 abbrev pub payload_success_at : Head → XmitDataRequest → Option Found → JsDecision
 payload_success_at head request None = refuses head Device
-payload_success_at head request (Some f) = decision.Accept (queued_answer head) (queue_of request f.device)
+payload_success_at head request (Some f) = queued_with head request f.device
 
 -- what an XmitDataReq comes to that no rule stands against
 abbrev pub payload_success : Config → Machine → Head → XmitDataRequest → JsDecision

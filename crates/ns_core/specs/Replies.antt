@@ -67,6 +67,9 @@ heard_answer head s count down = Headed head (UplinkAns (heard_members s count d
 abbrev pub duplicate_answer : Head → Speaker → Answer
 duplicate_answer head s = heard_answer head s s.context.last None
 
+abbrev pub duplicate_with : Head → Speaker → JsDecision
+duplicate_with head s = decision.Reply (duplicate_answer head s)
+
 -- the downlink behind an uplink, under the session's keys
 unfoldable pub down_behind : (ℕ → List ℕ) → UplinkRequest → Speaker → ℕ → Option (List ℕ)
 down_behind nwk request s count =
@@ -93,7 +96,7 @@ counted_with nwk head request s (Some v) = decision.Accept (counted_answer nwk h
 -- a duplicate gets the same counter, and changes nothing
 abbrev pub spoken : (ℕ → List ℕ) → Head → UplinkRequest → Speaker → JsDecision
 spoken nwk head request s =
-    if is_duplicate request.phy_payload s then decision.Reply (duplicate_answer head s)
+    if is_duplicate request.phy_payload s then duplicate_with head s
     else counted_with nwk head request s (count_of nwk request.phy_payload request.data_rate s)
 
 abbrev pub data_success : (ℕ → List ℕ) → Head → UplinkRequest → Option Speaker → JsDecision

@@ -2,28 +2,21 @@
 
 ghost use Rattle.std.specs.Prelude.{◌≡◌, length, IfOk};
 ghost use Rattle.entry_codec.specs.Machine.{lapse};
-ghost use Rattle.js_core.specs.Replies.{refuses};
 ghost use Rattle.key_vault.specs.Table.{nwk_at};
 ghost use Rattle.ns_core.specs.Replies.{ns_decided, uplink_decided};
 
 use crate::activation::activation_decision;
 use crate::payload::payload_decision;
+use crate::reply::refusal_decision;
 use crate::uplink::data_decision;
 use agreements::Tables;
 use backend_json::{Head, Message, Refusal, Request, UplinkRequest};
 use entry_codec::State;
 use exchanges::data_up;
-use js_core::{JsDecision, join_up, refused, wrong_size};
+use js_core::{JsDecision, join_up, wrong_size};
 use key_vault::{BlockFn, Vault};
 use std::alloc::Global;
-use wire_ids::{Decision, Memory, Moment};
-
-// A request that is refused.
-fn refusal_decision<'a>(head: Head, refusal: Refusal) -> Result<JsDecision<'a>, Memory>
-    ensures { IfOk result (λ d. d ≡ refuses head refusal) }
-{
-    Ok(Decision::Reply(refused(head, refusal)))
-}
+use wire_ids::{Memory, Moment};
 
 // What an UplinkReq comes to.
 #[tactic(auto, unfolding(crate::specs::Replies::uplink_decided))]

@@ -6,6 +6,7 @@ mod decide;
 pub mod laws;
 mod own;
 mod payload;
+mod reply;
 mod session;
 mod speaker;
 mod text;

@@ -5,9 +5,10 @@ ghost use Rattle.wire_ids.specs.Rules.{first_rule};
 ghost use Rattle.entry_codec.specs.Machine.{lapse};
 ghost use Rattle.js_core.specs.Found.{found_now, found_of};
 ghost use Rattle.ns_core.specs.Payloads.{has_8, is_under, is_used, payload_decided};
-ghost use Rattle.ns_core.specs.Payloads.{payload_rules, queue_of, too_large, wrong_device};
-ghost use Rattle.ns_core.specs.Payloads.{wrong_port};
+ghost use Rattle.ns_core.specs.Payloads.{payload_rules, queue_of, queued_with, too_large};
+ghost use Rattle.ns_core.specs.Payloads.{wrong_device, wrong_port};
 
+use crate::reply::refusal_decision;
 use crate::session::is_session;
 use crate::text::short_copy;
 use agreements::Tables;
@@ -15,7 +16,7 @@ use backend_json::{Answer, Head, Outcome, Refusal, XmitDataAnswer, XmitDataReque
 use contexts::Context;
 use entries::{Change, Queued};
 use entry_codec::State;
-use js_core::{FoundDevice, JsDecision, found_device, is_app, refused};
+use js_core::{FoundDevice, JsDecision, found_device, is_app};
 use std::alloc::Global;
 use wire_ids::{Decision, Memory, Moment};
 
@@ -116,8 +117,21 @@ fn queue_of(alloc: Global, request: &XmitDataRequest, device: u32) -> Result<Cha
     }))
 }
 
+// What a payload comes to that is taken for the device of this number.
+fn queued_with<'a>(
+    alloc: Global,
+    head: Head,
+    request: &XmitDataRequest,
+    device: u32,
+) -> Result<JsDecision<'a>, Memory>
+    ensures { IfOk result (λ d. d ≡ queued_with head request.now device) }
+{
+    let change = queue_of(alloc, request, device)?;
+    let outcome = Outcome::XmitDataAns(XmitDataAnswer { phy_payload: None });
+    Ok(Decision::Accept(Answer::Headed { head, outcome }, change))
+}
+
 // What a payload comes to in a state from which nothing has to lapse.
-#[tactic(auto, unfolding(crate::specs::Payloads::payload_decided))]
 fn decision_now<'a>(
     alloc: Global,
     tables: &Tables,
@@ -128,12 +142,8 @@ fn decision_now<'a>(
     ensures { IfOk result (λ d. d ≡ payload_decided tables.now state.now.now head request.now) }
 {
     match target(tables, state, &head, request) {
-        Err(refusal) => Ok(Decision::Reply(refused(head, refusal))),
-        Ok(device) => {
-            let change = queue_of(alloc, request, device.number)?;
-            let outcome = Outcome::XmitDataAns(XmitDataAnswer { phy_payload: None });
-            Ok(Decision::Accept(Answer::Headed { head, outcome }, change))
-        }
+        Err(refusal) => refusal_decision(head, refusal),
+        Ok(device) => queued_with(alloc, head, request, device.number),
     }
 }
 

@@ -10,10 +10,11 @@ ghost use Rattle.key_vault.specs.Table.{nwk_at};
 ghost use Rattle.exchanges.specs.Downlinks.{down_of};
 ghost use Rattle.exchanges.specs.Frames.{HasFields};
 ghost use Rattle.ns_core.specs.Heard.{Data};
-ghost use Rattle.ns_core.specs.Replies.{counted_with, heard_answer, success_at, up_of};
+ghost use Rattle.ns_core.specs.Replies.{counted_with, duplicate_with, heard_answer, success_at, up_of};
 ghost use Rattle.ns_core.specs.Rules.{uplink_rules_at};
 ghost use Rattle.ns_core.specs.Speakers.{keys_of, speaker_now, speaker_of};
 
+use crate::reply::refusal_decision;
 use crate::session::session_of;
 use crate::speaker::{Speaking, Valid, is_duplicate, speaker, valid_of};
 use crate::text::short_copy;
@@ -23,7 +24,7 @@ use data_frames::DataUp;
 use entries::{Change, Downlink, Uplink};
 use entry_codec::State;
 use exchanges::{Count, downlink_behind};
-use js_core::{JsDecision, refused};
+use js_core::JsDecision;
 use key_vault::{BlockFn, Vault};
 use std::alloc::Global;
 use wire_ids::{Decision, Memory, Moment, Text};
@@ -71,6 +72,14 @@ fn up_of(
         channel: count.channel,
         down,
     }))
+}
+
+// A duplicate gets the same counter, and changes nothing.
+fn duplicate_decision<'a>(head: Head, speaker: &Speaking<'_>) -> Result<JsDecision<'a>, Memory>
+    ensures { IfOk result (λ d. d ≡ duplicate_with head (speaker_now speaker.now)) }
+{
+    let answer = heard_answer(head, speaker, speaker.context.last, None);
+    Ok(Decision::Reply(answer))
 }
 
 // What a valid uplink comes to: its counter is told, and the downlink is sent that answers it.
@@ -124,14 +133,13 @@ pub(crate) fn data_decision<'a, E: BlockFn, D: BlockFn>(
         (success_at c nwk m head request.now heard)) }
 {
     let Some(speaker) = speaker(tables, state, up.addr, now) else {
-        return Ok(Decision::Reply(refused(head, Refusal::Address)));
+        return refusal_decision(head, Refusal::Address);
     };
     if is_duplicate(request.phy_payload.as_slice(), &speaker) {
-        let answer = heard_answer(head, &speaker, speaker.context.last, None);
-        return Ok(Decision::Reply(answer));
+        return duplicate_decision(head, &speaker);
     }
     match valid_of(vault, up, request.data_rate, &speaker) {
         Some(valid) => counted_with(alloc, head, request, up, &speaker, &valid),
-        None => Ok(Decision::Reply(refused(head, Refusal::Mic))),
+        None => refusal_decision(head, Refusal::Mic),
     }
 }

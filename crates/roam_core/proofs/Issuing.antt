@@ -1,4 +1,4 @@
--- Each JoinNonce and each DevNonce of a device in a legal history is above those before it.
+-- Each JoinNonce and each DevNonce of a device, and each number of a downlink counter, in a legal history is above those before it.
 use Rattle.std.proofs.Common.{List, [], ◌∷◌}
 use Rattle.wire_ids.specs.declared.keys.RootKeys.{RootKeys}
 use Rattle.agreements.specs.Walk.{Config}
@@ -6,6 +6,7 @@ use Rattle.entries.specs.declared.entry.Entry.{Entry}
 use Rattle.entry_codec.specs.Empty.{empty}
 use Rattle.entry_codec.specs.Replay.{AllFit}
 use Rattle.entry_codec.proofs.Issuing.{dev_nonces_once, join_nonces_once}
+use Rattle.histories.proofs.Downlinks.{downlink_numbers_once}
 use Rattle.roam_core.specs.Desk.{Desk, desk_after, empty_desk}
 use Rattle.roam_core.specs.Issues.{HistoriesIssueOnce}
 use Rattle.roam_core.specs.Legal.{IsLegal, MayFollow}
@@ -21,4 +22,8 @@ legal_fits c keys (e ∷ es) legal = (legal.0, all_fit c keys (desk_after (empty
 pub histories_issue_once : HistoriesIssueOnce
 histories_issue_once c keys history places legal =
     let fit = legal_fits c keys history legal in
-    record { join_nonces = join_nonces_once c history places fit; dev_nonces = dev_nonces_once c history places fit }
+    record {
+      join_nonces = join_nonces_once c history places fit;
+      dev_nonces = dev_nonces_once c history places fit;
+      downlinks = downlink_numbers_once c history places fit;
+    }

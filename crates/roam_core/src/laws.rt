@@ -62,8 +62,9 @@ pub fn app_key_stays()
     ensures { AppKeyStays }
 {}
 
-/// Over every legal history no JoinNonce is given to a device twice and no DevNonce of it accepted
-/// twice, and each is above those before it.
+/// Over every legal history no JoinNonce is given to a device twice, no DevNonce of it accepted
+/// twice, and no number of a downlink counter of one context issued twice, and each is above those
+/// before it.
 pub fn issued_once()
     ensures { HistoriesIssueOnce }
 {}

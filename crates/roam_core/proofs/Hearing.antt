@@ -295,7 +295,7 @@ above_last n (Some last) h = grind (arith, h)
 
 has_first : (rate : ℕ) (items : List Item) → holds_of (fits_at rate) (first_in items) ≡ true → nat_lt 0 (length items) ≡ true
 has_first rate [] e = absurd cc
-has_first rate (item ∷ items) e = refl
+has_first rate (item ∷ items) e = lt-ltb 0 (suc (length items)) (grind (arith))
 
 -- the downlink that answers is there: the first item where it fits, and the number where one is left
 answers : (c : Context) (frame : List ℕ) (rate : ℕ) → can_answer (down_of c frame rate) c ≡ true

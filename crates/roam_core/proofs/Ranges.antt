@@ -1,15 +1,13 @@
 -- Of a request that is read, that its numbers are in their ranges.
-use Rattle.std.proofs.Common.{◌≡◌, ℕ, ◌<◌, ◌^◌, Bool, true, false, cond, List, length, Option, Some, None, option_and_then, is_some, Result, Ok, Err, refl, subst, ltb-true}
-use Rattle.std.specs.Prelude.{nat_lt}
+use Rattle.std.proofs.Common.{◌≡◌, ℕ, ◌<◌, ◌^◌, Bool, true, false, cond, List, length, Option, Some, None, option_and_then, is_some, Result, Ok, Err, refl, ap, subst, ltb-true}
+use Rattle.std.specs.Prelude.{nat_lt, unwrap_or}
 use Rattle.serde_json.specs.Data.{Data, Members, object}
 use Rattle.serde_json.specs.Find.{as_bool, as_number, as_object, as_u64}
 use Rattle.backend_json.specs.Forms.{below, bytes_form, eui_form, session_form, whole_form}
-use Rattle.backend_json.specs.Members.{◌>>=◌, found_at, in_form, needed, needed_at, place_of}
+use Rattle.backend_json.specs.Members.{◌>>=◌, found_at, in_form, needed, needed_at, optional, place_of}
 use Rattle.backend_json.specs.Messages.{headed, json_of, message_in, message_of, with_head, with_request, is_served_version}
 use Rattle.backend_json.specs.Requests.{app_s_key_req_in, head_in, home_ns_req_in, join_req_in, request_in, uplink_req_in, xmit_data_req_in, xmit_in, xmit_uplink_in}
 use Rattle.backend_json.specs.declared.head.Head.{Head}
-use Rattle.backend_json.specs.declared.member.Key.{Key}
-use Rattle.backend_json.specs.declared.member.Key.TheVariants as member
 use Rattle.backend_json.specs.declared.message.Bad.{Bad}
 use Rattle.backend_json.specs.declared.message.Bad.TheVariants as bad
 use Rattle.backend_json.specs.declared.message.Message.{Message}
@@ -48,7 +46,7 @@ record IsGiven {A : Type 0} (form : Data → Option A) (a : A) : Type 0 where
   value : Data
   is : form value ≡ Some a
 
-given : {A : Type 0} (form : Data → Option A) (key : Key) (o : Option Data) (a : A) → needed_at form key o ≡ Ok a → IsGiven form a
+given : {A : Type 0} (form : Data → Option A) (key : _) (o : Option Data) (a : A) → needed_at form key o ≡ Ok a → IsGiven form a
 given form key None a e = absurd cc
 given form key (Some d) a e = by (form d) refl e
   where
@@ -57,37 +55,52 @@ given form key (Some d) a e = by (form d) refl e
     by (Some x) is e = record { value = d; is = cc }
 
 -- what is read first, and what is made of it
-record Bound {A B : Type 0} (x : Result A Key) (f : A → Result B Key) (b : B) : Type 0 where
+record Bound {A B K : Type 0} (x : Result A K) (f : A → Result B K) (b : B) : Type 0 where
   first : A
   is : x ≡ Ok first
   rest : f first ≡ Ok b
 
-bound : {A B : Type 0} (x : Result A Key) (f : A → Result B Key) (b : B) → (x >>= f) ≡ Ok b → Bound x f b
+bound : {A B : Type 0} (x : Result A _) (f : A → Result B _) (b : B) → (x >>= f) ≡ Ok b → Bound x f b
 bound (Ok a) f b e = record { first = a; is = refl; rest = e }
 bound (Err key) f b e = absurd cc
 
 -- ---- requests
 
-payload_read : (d : Data) (request : XmitDataRequest) → xmit_data_req_in d ≡ Ok request → request.f_cnt_down < 2 ^ 32
-unfolding xmit_data_req_in
-payload_read d request e =
-    let payload = bound (needed bytes_form member.FrmPayload d) _ request e in
-    let session = bound (needed session_form member.SessionKeyId d) _ request payload.rest in
-    let dev_eui = bound (needed eui_form member.DownlinkDevEui d) _ request session.rest in
-    let port = bound (needed (whole_form 256) member.FPort d) _ request dev_eui.rest in
-    let count = bound (needed (whole_form (2 ^ 32)) member.FCntDown d) _ request port.rest in
-    let confirmed = bound _ _ request count.rest in
-    let value = given (whole_form (2 ^ 32)) member.FCntDown (found_at (place_of member.FCntDown) d) count.first count.is in
-    let same : count.first ≡ request.f_cnt_down = cc in
+same_ok : {A K : Type 0} (a b : A) → (let x : Result A K = Ok a in x) ≡ Ok b → a ≡ b
+same_ok a b e = cc
+
+payload_by : (a b c p n q : _) (d : Data) (request : XmitDataRequest)
+    → (do
+      frm_payload ← needed bytes_form a d
+      session_key_id ← needed session_form b d
+      dev_eui ← needed eui_form c d
+      f_port ← needed (whole_form 256) p d
+      f_cnt_down ← needed (whole_form (2 ^ 32)) n d
+      confirmed ← optional as_bool q d
+      Ok (record { frm_payload = frm_payload; session_key_id = session_key_id; dev_eui = dev_eui; f_port = f_port; f_cnt_down = f_cnt_down; confirmed = unwrap_or confirmed false })) ≡ Ok request
+    → request.f_cnt_down < 2 ^ 32
+payload_by a b c p n q d request e =
+    let payload = bound (needed bytes_form a d) _ request e in
+    let session = bound (needed session_form b d) _ request payload.rest in
+    let dev_eui = bound (needed eui_form c d) _ request session.rest in
+    let port = bound (needed (whole_form 256) p d) _ request dev_eui.rest in
+    let count = bound (needed (whole_form (2 ^ 32)) n d) _ request port.rest in
+    let confirmed = bound (optional as_bool q d) _ request count.rest in
+    let value = given (whole_form (2 ^ 32)) n (found_at (place_of n) d) count.first count.is in
+    let same : count.first ≡ request.f_cnt_down = ap (λ (r : XmitDataRequest). r.f_cnt_down) (same_ok _ request confirmed.rest) in
     subst (λ (n : ℕ). n < 2 ^ 32) same (number_read (2 ^ 32) value.value count.first value.is)
 
-made_read : {A : Type 0} (x : Result A Key) (make : A → Request) (r : Request) → ((a : A) → x ≡ Ok a → InRange (make a)) → (x >>= λ a. Ok (make a)) ≡ Ok r → InRange r
+payload_read : (d : Data) (request : XmitDataRequest) → xmit_data_req_in d ≡ Ok request → request.f_cnt_down < 2 ^ 32
+unfolding xmit_data_req_in
+payload_read d request e = payload_by _ _ _ _ _ _ d request e
+
+made_read : {A : Type 0} (x : Result A _) (make : A → Request) (r : Request) → ((a : A) → x ≡ Ok a → InRange (make a)) → (x >>= λ a. Ok (make a)) ≡ Ok r → InRange r
 made_read (Ok a) make r f e = let same : make a ≡ r = cc in subst InRange same (f a refl)
 made_read (Err key) make r f e = absurd cc
 
 xmit_read : (d : Data) (r : Request) → xmit_in d ≡ Ok r → InRange r
 unfolding xmit_in
-xmit_read d r e = by (is_some (found_at (place_of member.PhyPayload) d)) e
+xmit_read d r e = by _ e
   where
     by : (b : Bool) → cond b (xmit_uplink_in d >>= λ request. Ok (XmitUplink request)) (xmit_data_req_in d >>= λ request. Ok (XmitDataReq request)) ≡ Ok r → InRange r
     by true e = made_read (xmit_uplink_in d) (λ request. XmitUplink request) r (λ a is. tt) e
@@ -105,7 +118,7 @@ request_read kind.Unknown d r e = let same : Unknown ≡ r = cc in subst InRange
 
 -- ---- messages
 
-with_request_read : (head : Head) (r : Result Request Key) (message : Message) → ((request : Request) → r ≡ Ok request → InRange request) → with_request head r ≡ Ok message → InRange message.request
+with_request_read : (head : Head) (r : Result Request _) (message : Message) → ((request : Request) → r ≡ Ok request → InRange request) → with_request head r ≡ Ok message → InRange message.request
 with_request_read head (Err key) message all e = absurd cc
 with_request_read head (Ok request) message all e = by (is_served_version head.protocol_version) e
   where
@@ -113,7 +126,7 @@ with_request_read head (Ok request) message all e = by (is_served_version head.p
     by true e = let same : request ≡ message.request = cc in subst InRange same (all request refl)
     by false e = absurd cc
 
-headed_read : (d : Data) (head : Result Head Key) (message : Message) → headed d head ≡ Ok message → InRange message.request
+headed_read : (d : Data) (head : Result Head _) (message : Message) → headed d head ≡ Ok message → InRange message.request
 unfolding with_head
 headed_read d (Err key) message e = absurd cc
 headed_read d (Ok head) message e = with_request_read head (request_in head.message_type d) message (request_read head.message_type d) e

@@ -1,8 +1,7 @@
 //! What the program doesn't print: which member a fault names, and what a peer says.
 
 use backend_json::{
-    Answer, Bad, Head, Message, MessageType, Outcome, Refusal, Request, SenderKind, XmitDataAnswer,
-    answer_text, read_message,
+    Answer, Bad, Head, Message, MessageType, Outcome, Refusal, answer_text, read_message,
 };
 use std::alloc::Global;
 use std::test::Fail;
@@ -123,18 +122,6 @@ const LACKING: [(&[u8], &str); 19] = [
     ),
 ];
 
-// A downlink of an application. Of a name that stands twice the last member counts.
-const DOWNLINK: &[u8] = b"{\"ProtocolVersion\":\"1.1\",\"SenderID\":\"a000000000000001\",\
-    \"ReceiverID\":\"000013\",\"TransactionID\":1,\"MessageType\":\"XmitDataReq\",\
-    \"FRMPayload\":\"0xaB01\",\"SessionKeyID\":\"70b3d57ed0001001000002\",\
-    \"DLMetaData\":{\"DevEUI\":\"70B3D57ED0001001\",\"FPort\":255,\"FCntDown\":1,\
-    \"FCntDown\":4294967295}}";
-
-// An uplink that a network passes on.
-const PASSED_ON: &[u8] = b"{\"ProtocolVersion\":\"1.1\",\"SenderID\":\"000014\",\
-    \"ReceiverID\":\"000013\",\"TransactionID\":1,\"MessageType\":\"XmitDataReq\",\
-    \"PHYPayload\":\"40\",\"ULMetaData\":{\"DataRate\":7}}";
-
 // The answers to requests that are refused for causes which the program doesn't print.
 const ASKED: &[u8] = b"{\"MessageType\":\"JoinAns\",\"ProtocolVersion\":\"1.1\",\
     \"ReceiverID\":\"000014\",\"Result\":{\"Description\":\"asked\",\
@@ -148,11 +135,6 @@ const SUSPENDED: &[u8] = b"{\"MessageType\":\"RejoinAns\",\"ProtocolVersion\":\"
 const PEER_SAID: &[u8] = b"{\"MessageType\":\"HomeNSAns\",\"ProtocolVersion\":\"1.1\",\
     \"ReceiverID\":\"000014\",\"Result\":{\"Description\":\"peer said Busy9\",\
     \"ResultCode\":\"Other\"},\"SenderID\":\"70b3d57ed0000001\",\"TransactionID\":7}";
-
-// The answer to an uplink that was passed on, with a downlink.
-const PASSED_BACK: &[u8] = b"{\"MessageType\":\"XmitDataAns\",\"PHYPayload\":\"60ff\",\
-    \"ProtocolVersion\":\"1.1\",\"ReceiverID\":\"000014\",\"Result\":{\"Description\":\"\",\
-    \"ResultCode\":\"Success\"},\"SenderID\":\"70b3d57ed0000001\",\"TransactionID\":7}";
 
 fn text_of(alloc: Global, message_type: MessageType, outcome: Outcome<'_>) -> Result<Text, Fail> {
     let head = Head {
@@ -196,43 +178,5 @@ fn a_refusal_has_its_text(rt: HostRuntime) -> Result<(), Fail> {
         let outcome = Outcome::Refused(cause);
         assert_eq!(rt; text_of(alloc, message_type, outcome)?.as_slice(), want);
     }
-    Ok(())
-}
-
-#[test]
-fn a_downlink_is_read_from_its_members(rt: HostRuntime) -> Result<(), Fail> {
-    let Ok(Ok(message)) = read_message(rt.alloc(), DOWNLINK) else {
-        return Err(Fail::from("no message"));
-    };
-    assert_eq!(rt; message.request.sender(), SenderKind::Application);
-    let Request::XmitDataReq(downlink) = message.request else {
-        return Err(Fail::from("no downlink"));
-    };
-    assert_eq!(rt; downlink.frm_payload.as_slice(), [0xab, 1].as_slice());
-    assert_eq!(rt; downlink.session_key_id.join_nonce.get(), 2);
-    assert_eq!(rt; downlink.dev_eui.0, 0x70b3d57ed0001001);
-    assert_eq!(rt; downlink.f_port, 255);
-    assert_eq!(rt; downlink.f_cnt_down, 4294967295);
-    assert_eq!(rt; downlink.confirmed, false);
-    Ok(())
-}
-
-#[test]
-fn an_uplink_is_passed_on_and_its_downlink_back(rt: HostRuntime) -> Result<(), Fail> {
-    let alloc = rt.alloc();
-    let Ok(Ok(message)) = read_message(alloc, PASSED_ON) else {
-        return Err(Fail::from("no message"));
-    };
-    assert_eq!(rt; message.request.sender(), SenderKind::Nobody);
-    let Request::XmitUplink(uplink) = message.request else {
-        return Err(Fail::from("no uplink"));
-    };
-    assert_eq!(rt; uplink.data_rate, 7);
-    let downlink = Text::of_slice(alloc, &[0x60, 0xff]).or(Err("memory"))?;
-    let outcome = Outcome::XmitDataAns(XmitDataAnswer {
-        phy_payload: Some(downlink),
-    });
-    let text = text_of(alloc, MessageType::XmitDataReq, outcome)?;
-    assert_eq!(rt; text.as_slice(), PASSED_BACK);
     Ok(())
 }

@@ -7,7 +7,7 @@ ghost use Rattle.agreements.specs.Walk.{tables_of};
 ghost use Rattle.key_vault.specs.Table.{Serves, Encrypts, Decrypts, root_key};
 
 use agreements::{Tables, read_tables};
-use book::{Answered, Book, Marked};
+use book::{Answered, Book, BookFault, Marked};
 use disk_model::{Disk, FuseDisk, Held, MemoryDisk, Steps};
 use keepers::{JournalKeeper, Keeper, MemoryKeeper};
 use key_vault::{BlockFn, KeyRing, RootKind, Vault};
@@ -47,12 +47,34 @@ const FRAMES: [&str; 2] = [
     "00010000d07ed5b370011000d07ed5b3700600e9bc6b74",
 ];
 
-// What a life gave.
+/// What a life gave.
 #[derive(Drop)]
-struct Given {
+pub struct Given {
+    /// The steps that its opening counted, or why it was refused.
+    pub opening: Result<u64, BookFault>,
     answers: Vec<Text>,
     marked: Option<Marked>,
     join_nonce: Option<u32>,
+}
+
+impl Given {
+    // What it gives where its book isn't opened.
+    fn refused(alloc: Global, fault: BookFault) -> Given {
+        Given {
+            opening: Err(fault),
+            answers: Vec::new(alloc),
+            marked: None,
+            join_nonce: None,
+        }
+    }
+}
+
+// The number of these steps, which take no bytes, so another count has to be shown to be theirs.
+fn number_of<G: Ledger>(steps: &Steps<G>, count: u64) -> u64
+    requires { count ≡ steps.now }
+    ensures { result ≡ steps.now }
+{
+    count
 }
 
 // The line of this frame.
@@ -84,10 +106,11 @@ fn answers<K: Keeper + Drop, E: BlockFn, D: BlockFn>(
     Ok(answers)
 }
 
-// What a book gives, and its keeper.
+// What a book gives that was opened in so many steps, and its keeper.
 fn run<K: Keeper + Drop, E: BlockFn, D: BlockFn>(
     alloc: Global,
     book: Book<K, E, D>,
+    steps: u64,
 ) -> Result<(Given, K), Fail> {
     let mut book = book;
     let answers = answers(alloc, &mut book)?;
@@ -101,6 +124,7 @@ fn run<K: Keeper + Drop, E: BlockFn, D: BlockFn>(
         Some(device) => Some(device.join_nonce.get()),
     };
     let given = Given {
+        opening: Ok(steps),
         answers,
         marked,
         join_nonce,
@@ -133,16 +157,10 @@ fn life<K: Keeper + Drop, E: BlockFn, D: BlockFn, G: Ledger>(
     let text = Text::of_slice(alloc, TABLES).or(Err("memory"))?;
     let vault = Vault::new(keys, encrypt, decrypt);
     let mut steps = Steps::<G>::new(blank);
+    let count = keeper.count();
     match Book::open(alloc, keeper, tables, text, vault, Moment(1000), &mut steps) {
-        Ok(book) => run(alloc, book),
-        Err(Held { object, .. }) => {
-            let given = Given {
-                answers: Vec::new(alloc),
-                marked: None,
-                join_nonce: None,
-            };
-            Ok((given, object))
-        }
+        Ok(book) => run(alloc, book, number_of(&steps, count)),
+        Err(Held { object, fault }) => Ok((Given::refused(alloc, fault), object)),
     }
 }
 
@@ -162,11 +180,7 @@ fn stopped_after(alloc: Global, calls: u64) -> Result<(Given, Given), Fail> {
     let (second, _) = lived(alloc, keeper)?;
     let first = match first {
         Some(given) => given,
-        None => Given {
-            answers: Vec::new(alloc),
-            marked: None,
-            join_nonce: None,
-        },
+        None => Given::refused(alloc, BookFault::KeeperFault),
     };
     Ok((first, second))
 }
@@ -201,8 +215,8 @@ fn keyed<K: Keeper + Drop, G: Ledger>(
     life::<K, _, _, G>(alloc, keeper, tables, &keys, encrypt, decrypt, blank)
 }
 
-// A life over a keeper.
-fn lived<K: Keeper + Drop>(alloc: Global, keeper: K) -> Result<(Given, K), Fail>
+/// A life over a keeper.
+pub fn lived<K: Keeper + Drop>(alloc: Global, keeper: K) -> Result<(Given, K), Fail>
     requires { K.rests keeper }
 {
     keyed::<K, Brand>(alloc, keeper, Blank::new(1))

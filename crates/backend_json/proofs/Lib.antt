@@ -1,4 +1,5 @@
 pub mod Bodies
+pub mod Seen
 pub mod Digits
 pub mod Objects
 pub mod Order

@@ -1,4 +1,5 @@
 pub mod Types
+pub mod Seen
 pub mod Forms
 pub mod Members
 pub mod Requests

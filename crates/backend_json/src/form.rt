@@ -4,15 +4,16 @@ ghost use Rattle.std.specs.Prelude.{◌≡◌, ◌<◌, ◌^◌, IfOk, IfSome, O
 ghost use Rattle.wire_ids.specs.Digits.{read_eui, read_net};
 ghost use Rattle.serde_json.specs.Data.{Data};
 ghost use Rattle.serde_json.specs.Find.{as_bool, as_str};
-ghost use Rattle.serde_json.specs.View.{view};
+ghost use Rattle.backend_json.specs.Seen.{seen};
 ghost use Rattle.backend_json.specs.Forms.{bytes_form, bytes_of, byte_form, cf_list_form};
 ghost use Rattle.backend_json.specs.Forms.{cf_list_of, dev_addr_form, digits_in, eui_form};
 ghost use Rattle.backend_json.specs.Forms.{peer_by, peer_form, sender_by, sender_form};
 ghost use Rattle.backend_json.specs.Forms.{session_form, session_of};
 ghost use Rattle.backend_json.specs.Forms.{texts_now, type_form, whole_form};
 
+use crate::body::{as_bool, as_text, as_whole};
 use crate::{MessageType, SessionKeyId};
-use serde_json::Value;
+use json::Value;
 use std::alloc::Global;
 use wire_ids::{DevAddr, Eui, Memory, NetId, Nonce24, PeerId, Sender, Text, without_prefix};
 
@@ -22,16 +23,16 @@ pub(crate) trait Form: Sized + Drop {
     ghost form: { Data → Option Self };
 
     /// What the value is.
-    fn read(alloc: Global, value: &Value) -> Result<Option<Self>, Memory>
-        ensures { IfOk result (λ found. found ≡ form (view value.now)) };
+    fn read(alloc: Global, value: &Value<'_>) -> Result<Option<Self>, Memory>
+        ensures { IfOk result (λ found. found ≡ form (seen value.now)) };
 }
 
 /// A text of any bytes.
 impl Form for Text {
     ghost form = { as_str };
 
-    fn read(alloc: Global, value: &Value) -> Result<Option<Text>, Memory> {
-        match value.as_str() {
+    fn read(alloc: Global, value: &Value<'_>) -> Result<Option<Text>, Memory> {
+        match as_text(value) {
             Some(text) => match Text::of_slice(alloc, text.as_bytes()) {
                 Ok(text) => Ok(Some(text)),
                 Err(memory) => Err(memory),
@@ -45,19 +46,19 @@ impl Form for Text {
 impl Form for bool {
     ghost form = { as_bool };
 
-    fn read(_: Global, value: &Value) -> Result<Option<bool>, Memory> {
-        Ok(value.as_bool())
+    fn read(_: Global, value: &Value<'_>) -> Result<Option<bool>, Memory> {
+        Ok(as_bool(value))
     }
 }
 
 // ---- numbers
 
 #[tactic(auto, unfolding(crate::specs::Forms::whole_form))]
-fn whole(value: &Value, limit: u64) -> Option<u64>
-    ensures value { result ≡ whole_form limit (view value.now) }
+fn whole(value: &Value<'_>, limit: u64) -> Option<u64>
+    ensures value { result ≡ whole_form limit (seen value.now) }
     ensures bound { IfSome result (λ n. n < limit) }
 {
-    match value.as_u64() {
+    match as_whole(value) {
         Some(found) => if found < limit { Some(found) } else { None },
         None => None,
     }
@@ -67,7 +68,7 @@ fn whole(value: &Value, limit: u64) -> Option<u64>
 impl Form for u32 {
     ghost form = { whole_form (2 ^ 32) };
 
-    fn read(_: Global, value: &Value) -> Result<Option<u32>, Memory> {
+    fn read(_: Global, value: &Value<'_>) -> Result<Option<u32>, Memory> {
         Ok(match whole(value, 1 << 32) {
             Some(found) => Some(found as u32),
             None => None,
@@ -79,7 +80,7 @@ impl Form for u32 {
 impl Form for u8 {
     ghost form = { whole_form 256 };
 
-    fn read(_: Global, value: &Value) -> Result<Option<u8>, Memory> {
+    fn read(_: Global, value: &Value<'_>) -> Result<Option<u8>, Memory> {
         Ok(match whole(value, 256) {
             Some(found) => Some(found as u8),
             None => None,
@@ -94,7 +95,7 @@ pub(crate) struct Below<const LIMIT: u8>(pub u8);
 impl<const LIMIT: u8> Form for Below<LIMIT> {
     ghost form = { λ d. option_map (λ n. record { 0 = n }) (whole_form LIMIT d) };
 
-    fn read(_: Global, value: &Value) -> Result<Option<Below<LIMIT>>, Memory> {
+    fn read(_: Global, value: &Value<'_>) -> Result<Option<Below<LIMIT>>, Memory> {
         Ok(match whole(value, LIMIT as u64) {
             Some(found) => Some(Below(found as u8)),
             None => None,
@@ -106,10 +107,10 @@ impl<const LIMIT: u8> Form for Below<LIMIT> {
 
 // The digits of a text, without a 0x or 0X before them.
 #[tactic(auto, unfolding(crate::specs::Forms::digits_in))]
-fn digits_in(value: &Value) -> Option<&[u8]>
-    ensures { texts_now result ≡ digits_in (view value.now) }
+fn digits_in<'a>(value: &Value<'a>) -> Option<&'a [u8]>
+    ensures { texts_now result ≡ digits_in (seen value.now) }
 {
-    match value.as_str() {
+    match as_text(value) {
         Some(text) => Some(without_prefix(text.as_bytes())),
         None => None,
     }
@@ -134,7 +135,7 @@ impl Form for Bytes {
     ghost form = { λ d. option_map (λ bytes. record { 0 = bytes }) (bytes_form d) };
 
     #[tactic(auto, unfolding(crate::specs::Forms::bytes_form))]
-    fn read(alloc: Global, value: &Value) -> Result<Option<Bytes>, Memory> {
+    fn read(alloc: Global, value: &Value<'_>) -> Result<Option<Bytes>, Memory> {
         let Some(digits) = digits_in(value) else {
             return Ok(None);
         };
@@ -154,7 +155,7 @@ impl Form for Byte {
     ghost form = { λ d. option_map (λ byte. record { 0 = byte }) (byte_form d) };
 
     #[tactic(auto, unfolding(crate::specs::Forms::byte_form))]
-    fn read(_: Global, value: &Value) -> Result<Option<Byte>, Memory> {
+    fn read(_: Global, value: &Value<'_>) -> Result<Option<Byte>, Memory> {
         Ok(match digits_in(value).and_then(bytes_of::<1>) {
             Some(bytes) => Some(Byte(bytes[0])),
             None => None,
@@ -183,7 +184,7 @@ impl Form for CfList {
     ghost form = { λ d. option_map (λ cf. record { 0 = cf }) (cf_list_form d) };
 
     #[tactic(auto, unfolding(crate::specs::Forms::cf_list_form))]
-    fn read(_: Global, value: &Value) -> Result<Option<CfList>, Memory> {
+    fn read(_: Global, value: &Value<'_>) -> Result<Option<CfList>, Memory> {
         Ok(match digits_in(value).and_then(cf_list_of) {
             Some(cf_list) => Some(CfList(cf_list)),
             None => None,
@@ -214,7 +215,7 @@ impl Form for SessionKeyId {
     ghost form = { session_form };
 
     #[tactic(auto, unfolding(crate::specs::Forms::session_form))]
-    fn read(_: Global, value: &Value) -> Result<Option<SessionKeyId>, Memory> {
+    fn read(_: Global, value: &Value<'_>) -> Result<Option<SessionKeyId>, Memory> {
         Ok(digits_in(value).and_then(session_of))
     }
 }
@@ -225,8 +226,8 @@ impl Form for Eui {
     ghost form = { eui_form };
 
     #[tactic(auto, unfolding(crate::specs::Forms::eui_form))]
-    fn read(_: Global, value: &Value) -> Result<Option<Eui>, Memory> {
-        Ok(match value.as_str() {
+    fn read(_: Global, value: &Value<'_>) -> Result<Option<Eui>, Memory> {
+        Ok(match as_text(value) {
             Some(text) => Eui::from_hex(text.as_bytes()).ok(),
             None => None,
         })
@@ -237,8 +238,8 @@ impl Form for DevAddr {
     ghost form = { dev_addr_form };
 
     #[tactic(auto, unfolding(crate::specs::Forms::dev_addr_form))]
-    fn read(_: Global, value: &Value) -> Result<Option<DevAddr>, Memory> {
-        Ok(match value.as_str() {
+    fn read(_: Global, value: &Value<'_>) -> Result<Option<DevAddr>, Memory> {
+        Ok(match as_text(value) {
             Some(text) => DevAddr::from_hex(text.as_bytes()).ok(),
             None => None,
         })
@@ -262,8 +263,8 @@ impl Form for Sender {
     ghost form = { sender_form };
 
     #[tactic(auto, unfolding(crate::specs::Forms::sender_form))]
-    fn read(_: Global, value: &Value) -> Result<Option<Sender>, Memory> {
-        Ok(match value.as_str() {
+    fn read(_: Global, value: &Value<'_>) -> Result<Option<Sender>, Memory> {
+        Ok(match as_text(value) {
             Some(text) => sender_by(text.as_bytes()),
             None => None,
         })
@@ -287,8 +288,8 @@ impl Form for PeerId {
     ghost form = { peer_form };
 
     #[tactic(auto, unfolding(crate::specs::Forms::peer_form))]
-    fn read(_: Global, value: &Value) -> Result<Option<PeerId>, Memory> {
-        Ok(match value.as_str() {
+    fn read(_: Global, value: &Value<'_>) -> Result<Option<PeerId>, Memory> {
+        Ok(match as_text(value) {
             Some(text) => peer_by(text.as_bytes()),
             None => None,
         })
@@ -300,8 +301,8 @@ impl Form for MessageType {
     ghost form = { type_form };
 
     #[tactic(auto, unfolding(crate::specs::Forms::type_form))]
-    fn read(_: Global, value: &Value) -> Result<Option<MessageType>, Memory> {
-        Ok(match value.as_str() {
+    fn read(_: Global, value: &Value<'_>) -> Result<Option<MessageType>, Memory> {
+        Ok(match as_text(value) {
             Some(name) => Some(MessageType::named(name.as_bytes())),
             None => None,
         })

@@ -1,10 +1,10 @@
-ghost use Rattle.serde_json.specs.View.{view};
+ghost use Rattle.backend_json.specs.Seen.{seen};
 ghost use Rattle.backend_json.specs.Members.{GivesMember};
 ghost use Rattle.backend_json.specs.Requests.{head_in};
 
 use crate::MessageType;
 use crate::member::{Gap, Key, needed};
-use serde_json::Value;
+use json::Value;
 use std::alloc::Global;
 use wire_ids::{PeerId, Sender, Text};
 
@@ -24,8 +24,8 @@ pub struct Head {
 }
 
 #[tactic(auto, unfolding(crate::specs::Requests::head_in))]
-pub(crate) fn read_head(alloc: Global, value: &Value) -> Result<Head, Gap>
-    ensures { GivesMember result (head_in (view value.now)) }
+pub(crate) fn read_head(alloc: Global, value: &Value<'_>) -> Result<Head, Gap>
+    ensures { GivesMember result (head_in (seen value.now)) }
 {
     let protocol_version = needed(alloc, value, Key::ProtocolVersion)?;
     let sender = needed(alloc, value, Key::SenderId)?;

@@ -2,6 +2,7 @@
 #![tactic(auto)]
 
 mod answer;
+mod body;
 mod form;
 mod head;
 pub mod laws;
@@ -10,6 +11,7 @@ mod members;
 mod message;
 mod message_type;
 mod name;
+mod number;
 mod object;
 mod refusal;
 mod request;

@@ -2,13 +2,14 @@
 
 ghost use Rattle.std.specs.Prelude.{◌≡◌, option_and_then, option_map};
 ghost use Rattle.serde_json.specs.Find.{get};
-ghost use Rattle.serde_json.specs.View.{view};
+ghost use Rattle.backend_json.specs.Seen.{seen};
 ghost use Rattle.backend_json.specs.Members.{GivesMember, found_at, needed, optional};
 ghost use Rattle.backend_json.specs.Members.{path_of, place_of};
 ghost use Rattle.backend_json.specs.declared.member.Gap.TheVariants.{Memory as no_memory};
 
+use crate::body::member_named;
 use crate::form::Form;
-use serde_json::Value;
+use json::Value;
 use std::alloc::Global;
 use wire_ids::Memory;
 
@@ -69,9 +70,9 @@ impl Key {
 
     /// What stands there in a message.
     #[tactic(auto, unfolding(crate::specs::Members::place_of))]
-    pub(crate) fn find(self, message: &Value) -> Option<&Value>
-        ensures { option_map (λ v. view v.now) result
-            ≡ found_at (place_of self) (view message.now) }
+    pub(crate) fn find<'v, 'a>(self, message: &'v Value<'a>) -> Option<&'v Value<'a>>
+        ensures { option_map (λ v. seen v.now) result
+            ≡ found_at (place_of self) (seen message.now) }
     {
         match self {
             Key::UplinkDataRate => inside(message, "ULMetaData", "DataRate"),
@@ -79,17 +80,17 @@ impl Key {
             Key::FPort => inside(message, "DLMetaData", "FPort"),
             Key::FCntDown => inside(message, "DLMetaData", "FCntDown"),
             Key::Confirmed => inside(message, "DLMetaData", "Confirmed"),
-            _ => message.get(self.path()),
+            _ => member_named(message, self.path()),
         }
     }
 }
 
 // What stands under a name in an object of a message.
-fn inside<'a>(message: &'a Value, object: &str, name: &str) -> Option<&'a Value>
-    ensures { option_map (λ v. view v.now) result
-        ≡ option_and_then (get name.now) (get object.now (view message.now)) }
+fn inside<'v, 'a>(message: &'v Value<'a>, object: &str, name: &str) -> Option<&'v Value<'a>>
+    ensures { option_map (λ v. seen v.now) result
+        ≡ option_and_then (get name.now) (get object.now (seen message.now)) }
 {
-    message.get(object)?.get(name)
+    member_named(member_named(message, object)?, name)
 }
 
 /// Why a member isn't given.
@@ -109,8 +110,8 @@ impl From<Memory> for Gap {
 }
 
 /// A member that must stand there.
-pub(crate) fn needed<T: Form>(alloc: Global, message: &Value, key: Key) -> Result<T, Gap>
-    ensures { GivesMember result (needed T.form key (view message.now)) }
+pub(crate) fn needed<T: Form>(alloc: Global, message: &Value<'_>, key: Key) -> Result<T, Gap>
+    ensures { GivesMember result (needed T.form key (seen message.now)) }
 {
     let Some(value) = key.find(message) else {
         return Err(Gap::Member(key));
@@ -123,8 +124,12 @@ pub(crate) fn needed<T: Form>(alloc: Global, message: &Value, key: Key) -> Resul
 }
 
 /// A member that may be missing. It is ill-formed where it stands there in another form, as null.
-pub(crate) fn optional<T: Form>(alloc: Global, message: &Value, key: Key) -> Result<Option<T>, Gap>
-    ensures { GivesMember result (optional T.form key (view message.now)) }
+pub(crate) fn optional<T: Form>(
+    alloc: Global,
+    message: &Value<'_>,
+    key: Key,
+) -> Result<Option<T>, Gap>
+    ensures { GivesMember result (optional T.form key (seen message.now)) }
 {
     let Some(value) = key.find(message) else {
         return Ok(None);

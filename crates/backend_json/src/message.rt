@@ -1,12 +1,13 @@
 ghost use Rattle.std.specs.Prelude.{◌≡◌, IfOk, option_map};
-ghost use Rattle.serde_json.specs.View.{view};
+ghost use Rattle.backend_json.specs.Seen.{seen};
 ghost use Rattle.backend_json.specs.Messages.{GivesBad, json_of, message_of, with_head};
 
+use crate::body::{is_object, json_value};
 use crate::head::read_head;
 use crate::member::Gap;
 use crate::request::read_request;
 use crate::{Head, Request};
-use serde_json::Value;
+use json::{Scratch, Value};
 use std::alloc::Global;
 use wire_ids::{Memory, Text};
 
@@ -33,20 +34,6 @@ pub enum Bad {
     TooLong,
 }
 
-// The value of a JSON text.
-fn json(alloc: Global, body: &[u8]) -> Result<Option<Value>, Memory>
-    ensures { IfOk result (λ found. option_map view found ≡ json_of body.now) }
-{
-    match Value::from_slice(alloc, body) {
-        Ok(value) => Ok(Some(value)),
-        Err(error) => if error.is_memory() {
-            Err(Memory)
-        } else {
-            Ok(None)
-        },
-    }
-}
-
 // What is to be said of a gap in a message with this head.
 fn bad_member(alloc: Global, gap: Gap, head: Option<Head>) -> Result<Bad, Memory>
     ensures { GivesBad result gap head }
@@ -62,8 +49,8 @@ fn bad_member(alloc: Global, gap: Gap, head: Option<Head>) -> Result<Bad, Memory
 
 // The message of a value whose head was read.
 #[tactic(auto, unfolding(crate::specs::Messages::with_head))]
-fn read_rest(alloc: Global, head: Head, value: &Value) -> Result<Result<Message, Bad>, Memory>
-    ensures { IfOk result (λ found. found ≡ with_head head (view value.now)) }
+fn read_rest(alloc: Global, head: Head, value: &Value<'_>) -> Result<Result<Message, Bad>, Memory>
+    ensures { IfOk result (λ found. found ≡ with_head head (seen value.now)) }
 {
     let request = match read_request(alloc, head.message_type, value) {
         Ok(request) => request,
@@ -89,10 +76,11 @@ pub fn read_message(alloc: Global, body: &[u8]) -> Result<Result<Message, Bad>, 
     if body.len() > 8192 {
         return Ok(Err(Bad::TooLong));
     }
-    let Some(value) = json(alloc, body)? else {
+    let mut scratch = Scratch::new(alloc);
+    let Some(value) = json_value(alloc, body, &mut scratch)? else {
         return Ok(Err(Bad::NotJson));
     };
-    if !value.is_object() {
+    if !is_object(&value) {
         return Ok(Err(Bad::NotJson));
     }
     match read_head(alloc, &value) {

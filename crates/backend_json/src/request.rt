@@ -1,5 +1,5 @@
 ghost use Rattle.std.specs.Prelude.{◌≡◌};
-ghost use Rattle.serde_json.specs.View.{view};
+ghost use Rattle.backend_json.specs.Seen.{seen};
 ghost use Rattle.backend_json.specs.Members.{GivesMember};
 ghost use Rattle.backend_json.specs.Requests.{app_s_key_req_in, home_ns_req_in, join_req_in};
 ghost use Rattle.backend_json.specs.Requests.{radio_in, request_in, uplink_req_in};
@@ -9,7 +9,7 @@ ghost use Rattle.backend_json.specs.Types.{sender_of};
 use crate::form::{Below, Byte, Bytes, CfList};
 use crate::member::{Gap, Key, needed, optional};
 use crate::{MessageType, SenderKind, SessionKeyId};
-use serde_json::Value;
+use json::Value;
 use std::alloc::Global;
 use wire_ids::{DevAddr, Eui, Radio, Text};
 
@@ -112,8 +112,8 @@ impl Request {
 
 // The radio parameters: DLSettings, RxDelay and CFList.
 #[tactic(auto, unfolding(crate::specs::Requests::radio_in))]
-fn radio(alloc: Global, value: &Value) -> Result<Radio, Gap>
-    ensures { GivesMember result (radio_in (view value.now)) }
+fn radio(alloc: Global, value: &Value<'_>) -> Result<Radio, Gap>
+    ensures { GivesMember result (radio_in (seen value.now)) }
 {
     let Byte(dl) = needed(alloc, value, Key::DlSettings)?;
     let rx_delay: Below<16> = needed(alloc, value, Key::RxDelay)?;
@@ -129,8 +129,8 @@ fn radio(alloc: Global, value: &Value) -> Result<Radio, Gap>
 }
 
 #[tactic(auto, unfolding(crate::specs::Requests::join_req_in))]
-fn join_req(alloc: Global, value: &Value) -> Result<JoinRequest, Gap>
-    ensures { GivesMember result (join_req_in (view value.now)) }
+fn join_req(alloc: Global, value: &Value<'_>) -> Result<JoinRequest, Gap>
+    ensures { GivesMember result (join_req_in (seen value.now)) }
 {
     let mac_version = needed(alloc, value, Key::MacVersion)?;
     let Bytes(phy_payload) = needed(alloc, value, Key::PhyPayload)?;
@@ -147,8 +147,8 @@ fn join_req(alloc: Global, value: &Value) -> Result<JoinRequest, Gap>
 }
 
 #[tactic(auto, unfolding(crate::specs::Requests::app_s_key_req_in))]
-fn app_s_key_req(alloc: Global, value: &Value) -> Result<AppSKeyRequest, Gap>
-    ensures { GivesMember result (app_s_key_req_in (view value.now)) }
+fn app_s_key_req(alloc: Global, value: &Value<'_>) -> Result<AppSKeyRequest, Gap>
+    ensures { GivesMember result (app_s_key_req_in (seen value.now)) }
 {
     let dev_eui = needed(alloc, value, Key::DevEui)?;
     let session_key_id = needed(alloc, value, Key::SessionKeyId)?;
@@ -159,16 +159,16 @@ fn app_s_key_req(alloc: Global, value: &Value) -> Result<AppSKeyRequest, Gap>
 }
 
 #[tactic(auto, unfolding(crate::specs::Requests::home_ns_req_in))]
-fn home_ns_req(alloc: Global, value: &Value) -> Result<HomeNsRequest, Gap>
-    ensures { GivesMember result (home_ns_req_in (view value.now)) }
+fn home_ns_req(alloc: Global, value: &Value<'_>) -> Result<HomeNsRequest, Gap>
+    ensures { GivesMember result (home_ns_req_in (seen value.now)) }
 {
     let dev_eui = needed(alloc, value, Key::DevEui)?;
     Ok(HomeNsRequest { dev_eui })
 }
 
 #[tactic(auto, unfolding(crate::specs::Requests::uplink_req_in))]
-fn uplink_req(alloc: Global, value: &Value) -> Result<UplinkRequest, Gap>
-    ensures { GivesMember result (uplink_req_in (view value.now)) }
+fn uplink_req(alloc: Global, value: &Value<'_>) -> Result<UplinkRequest, Gap>
+    ensures { GivesMember result (uplink_req_in (seen value.now)) }
 {
     let Bytes(phy_payload) = needed(alloc, value, Key::PhyPayload)?;
     let data_rate: Below<8> = needed(alloc, value, Key::DataRate)?;
@@ -179,8 +179,8 @@ fn uplink_req(alloc: Global, value: &Value) -> Result<UplinkRequest, Gap>
 }
 
 #[tactic(auto, unfolding(crate::specs::Requests::xmit_data_req_in))]
-fn xmit_data_req(alloc: Global, value: &Value) -> Result<XmitDataRequest, Gap>
-    ensures { GivesMember result (xmit_data_req_in (view value.now)) }
+fn xmit_data_req(alloc: Global, value: &Value<'_>) -> Result<XmitDataRequest, Gap>
+    ensures { GivesMember result (xmit_data_req_in (seen value.now)) }
 {
     let Bytes(frm_payload) = needed(alloc, value, Key::FrmPayload)?;
     let session_key_id = needed(alloc, value, Key::SessionKeyId)?;
@@ -199,8 +199,8 @@ fn xmit_data_req(alloc: Global, value: &Value) -> Result<XmitDataRequest, Gap>
 }
 
 #[tactic(auto, unfolding(crate::specs::Requests::xmit_uplink_in))]
-fn xmit_uplink(alloc: Global, value: &Value) -> Result<XmitUplinkRequest, Gap>
-    ensures { GivesMember result (xmit_uplink_in (view value.now)) }
+fn xmit_uplink(alloc: Global, value: &Value<'_>) -> Result<XmitUplinkRequest, Gap>
+    ensures { GivesMember result (xmit_uplink_in (seen value.now)) }
 {
     let Bytes(phy_payload) = needed(alloc, value, Key::PhyPayload)?;
     let data_rate: Below<8> = needed(alloc, value, Key::UplinkDataRate)?;
@@ -212,8 +212,8 @@ fn xmit_uplink(alloc: Global, value: &Value) -> Result<XmitUplinkRequest, Gap>
 
 // An XmitDataReq is an uplink where it has the name PHYPayload, and else a downlink.
 #[tactic(auto, unfolding(crate::specs::Requests::xmit_in))]
-fn xmit(alloc: Global, value: &Value) -> Result<Request, Gap>
-    ensures { GivesMember result (xmit_in (view value.now)) }
+fn xmit(alloc: Global, value: &Value<'_>) -> Result<Request, Gap>
+    ensures { GivesMember result (xmit_in (seen value.now)) }
 {
     if Key::PhyPayload.find(value).is_some() {
         return Ok(Request::XmitUplink(xmit_uplink(alloc, value)?));
@@ -222,8 +222,12 @@ fn xmit(alloc: Global, value: &Value) -> Result<Request, Gap>
 }
 
 #[tactic(auto, unfolding(crate::specs::Requests::request_in))]
-pub(crate) fn read_request(alloc: Global, kind: MessageType, value: &Value) -> Result<Request, Gap>
-    ensures { GivesMember result (request_in kind (view value.now)) }
+pub(crate) fn read_request(
+    alloc: Global,
+    kind: MessageType,
+    value: &Value<'_>,
+) -> Result<Request, Gap>
+    ensures { GivesMember result (request_in kind (seen value.now)) }
 {
     Ok(match kind {
         MessageType::JoinReq => Request::JoinReq(join_req(alloc, value)?),

@@ -55,7 +55,7 @@ fn help_text(alloc: Global) -> Result<String, AllocError> {
         .action(ArgAction::SetTrue)
         .help("Prints this help");
     let mut program = Command::new(alloc, "lwdesk")
-        .about("A join server for LoRaWAN 1.1 devices")
+        .about("A join server and network server for LoRaWAN 1.1 devices")
         .override_usage(USAGE)
         .after_help(EXAMPLE)
         .disable_help_flag(true)

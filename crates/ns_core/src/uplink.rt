@@ -10,7 +10,8 @@ ghost use Rattle.key_vault.specs.Table.{nwk_at};
 ghost use Rattle.exchanges.specs.Downlinks.{down_of};
 ghost use Rattle.exchanges.specs.Frames.{HasFields};
 ghost use Rattle.ns_core.specs.Heard.{Data};
-ghost use Rattle.ns_core.specs.Replies.{counted_with, duplicate_with, heard_answer, success_at, up_of};
+ghost use Rattle.ns_core.specs.Replies.{counted_with, duplicate_with, heard_answer, success_at};
+ghost use Rattle.ns_core.specs.Replies.{up_of};
 ghost use Rattle.ns_core.specs.Rules.{uplink_rules_at};
 ghost use Rattle.ns_core.specs.Speakers.{keys_of, speaker_now, speaker_of};
 

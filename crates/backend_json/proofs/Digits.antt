@@ -1,6 +1,7 @@
 -- Digits need no escape in a string, and plain bytes neither.
+use Rattle.std.proofs.lemmas.Bool.{eqb-false}
 use Rattle.std.proofs.lemmas.Bool.Decides.{nat_tests}
-use Rattle.std.proofs.Common.{◌≡◌, ◌≢◌, take, ℕ, zero, suc, ◌+◌, ◌<◌, ◌≤◌, ◌/◌, ◌%◌, List, [], ◌∷◌, ◌++◌, refl, arith, sym, ap, ◌∙◌, append_assoc, drop, length, get_or, Result, Ok, Err, OnOk, IsOk}
+use Rattle.std.proofs.Common.{◌≡◌, ◌≢◌, ◌&&◌, ◌==◌, Bool, true, false, true≢false, not, nat_le, leb-true, take, ℕ, zero, suc, ◌+◌, ◌<◌, ◌≤◌, ◌/◌, ◌%◌, List, [], ◌∷◌, ◌++◌, refl, arith, sym, ap, ◌∙◌, append_assoc, drop, length, get_or, Result, Ok, Err, OnOk, IsOk}
 use Rattle.std.specs.Prelude.{slice_index}
 use Rattle.std.proofs.lemmas.Grind.{flat_map-append}
 use Rattle.std.proofs.lemmas.List.{at_drop_more, take-append-drop, take_more}
@@ -63,6 +64,17 @@ plain_byte : (x : ℕ) → 32 ≤ x → x ≢ 34 → x ≢ 92 → escape_byte x 
 unfolding escape_byte
 plain_byte x low quote slash = grind (arith, nat_tests)
 
+both_hold : (a b : Bool) → (a && b) ≡ true → (a ≡ true) × (b ≡ true)
+both_hold true b h = (refl, h)
+both_hold false b h = absurd (true≢false (sym h))
+
+holds_not : (b : Bool) → not b ≡ true → b ≡ false
+holds_not true h = absurd (true≢false (sym h))
+holds_not false h = refl
+
+differs : (x y : ℕ) → not (x == y) ≡ true → x ≢ y
+differs x y h = eqb-false x y (holds_not (x == y) h)
+
 pub plain_step : (text : List ℕ) (i : ℕ) → i < length text → 32 ≤ get_or text i 0 → get_or text i 0 ≢ 34 → get_or text i 0 ≢ 92
     → escape text ≡ take i text ++ escape (drop i text) → escape text ≡ take (i + 1) text ++ escape (drop (i + 1) text)
 plain_step text i inside low quote slash h =
@@ -70,3 +82,13 @@ plain_step text i inside low quote slash h =
     let rest = escape (drop (i + 1) text) in
     let split = at_drop_more escape text i 0 inside ∙ ap (λ l. l ++ rest) (plain_byte byte low quote slash) in
     h ∙ ap (λ l. take i text ++ l) split ∙ sym (append_assoc (take i text) (byte ∷ []) rest) ∙ ap (λ l. l ++ rest) (sym (take_more text i 0 inside))
+
+-- a byte more is plain, where all before it are
+pub plain_yet : (plain : Bool) (text : List ℕ) (i : ℕ) → i < length text → (plain ≡ true → escape text ≡ take i text ++ escape (drop i text))
+    → (plain && ((nat_le 32 (get_or text i 0) && not (get_or text i 0 == 34)) && not (get_or text i 0 == 92))) ≡ true → escape text ≡ take (i + 1) text ++ escape (drop (i + 1) text)
+plain_yet plain text i inside before h =
+    let x = get_or text i 0 in
+    let all = both_hold plain _ h in
+    let ends = both_hold (nat_le 32 x && not (x == 34)) (not (x == 92)) all.1 in
+    let starts = both_hold (nat_le 32 x) (not (x == 34)) ends.0 in
+    plain_step text i inside (leb-true 32 x starts.0) (differs x 34 starts.1) (differs x 92 ends.1) (before all.0)

@@ -269,7 +269,7 @@ fn answer_members<'a>(answer: &'a Answer<'a>) -> Members<'a>
 pub fn answer_text(alloc: Global, answer: &Answer<'_>) -> Result<Text, Memory>
     ensures { IfOk result (λ text. text ≡ text_of answer.now) }
 {
-    let mut out = Vec::with_capacity(alloc, 640)?;
+    let mut out = Vec::with_capacity(alloc, 1024)?;
     let members = answer_members(&*answer);
     put_object(&mut out, &members.named())?;
     Ok(Text::new(out))

@@ -58,16 +58,15 @@ fn put_escaped(out: &mut Vec<u8>, byte: u8) -> Result<(), AllocError>
     out.extend_from_slice(&[byte])
 }
 
-// Whether each byte stands in a string as it is.
+// Whether each byte stands in a string as it is. It looks at all of them: many at once, then.
 fn is_plain(text: &[u8]) -> bool
     ensures { IsTrue result → escape text.now ≡ text.now }
 {
+    let mut plain = true;
     for byte in text {
-        if *byte < 0x20 || *byte == b'"' || *byte == b'\\' {
-            return false;
-        }
+        plain &= (*byte >= 0x20) & (*byte != b'"') & (*byte != b'\\');
     }
-    true
+    plain
 }
 
 // Writes the text as it stands in a string.

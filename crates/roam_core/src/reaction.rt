@@ -82,13 +82,22 @@ fn kept_text(event: &Event) -> Option<&ShortText>
     }
 }
 
+// A copy, with room for a line's end behind it.
+fn copied(alloc: Global, bytes: &[u8]) -> Result<Text, Memory>
+    ensures { IfOk result (λ t. t ≡ bytes.now) }
+{
+    let mut copy = Vec::with_capacity(alloc, bytes.len() + 1)?;
+    copy.extend_from_slice(bytes)?;
+    Ok(Text::new(copy))
+}
+
 // The bytes of the answer that comes with an entry, which has them.
 fn entered_text(alloc: Global, answer: &Answer, entry: &Entry) -> Result<Text, Memory>
     requires { kept_text entry.now.event ≡ Some (text_of answer.now) }
     ensures { IfOk result (λ t. t ≡ text_of answer.now) }
 {
     match kept_text(&entry.event) {
-        Some(text) => Text::of_slice(alloc, text.as_slice()),
+        Some(text) => copied(alloc, text.as_slice()),
         None => answer_text(alloc, answer),
     }
 }

@@ -87,8 +87,8 @@ fn value_in<'a>(
     }
 }
 
-/// The value of a body, None where it is no JSON text. The scratch is lent to it, for the texts that
-/// have escapes. The one error is want of memory.
+/// The value of a body, None where it is no JSON text. The scratch is lent to it, for the texts
+/// that have escapes. The one error is want of memory.
 pub(crate) fn json_value<'a>(
     alloc: Global,
     body: &'a [u8],

@@ -5,6 +5,6 @@ mod envelopes;
 mod keys;
 mod roles;
 
-pub use envelopes::envelope;
+pub use envelopes::{envelope, network_envelopes};
 pub use keys::{KeySet, keys_for};
 pub use roles::{AnswerKind, Facts, Role, role_of};

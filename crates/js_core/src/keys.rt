@@ -9,9 +9,9 @@ ghost use Rattle.js_core.specs.Replies.{for_network, sealed_by, where_set};
 
 use agreements::{DeviceRow, Tables};
 use backend_json::{AnswerKeys, KekLabel, KeyEnvelope};
-use entitlement::{KeySet, envelope};
+use entitlement::{KeySet, envelope, network_envelopes};
 use key_vault::{BlockFn, Vault};
-use wire_ids::{Seed, Text};
+use wire_ids::{Seed, SessionKeys, Text};
 
 // The network's three keys of an answer.
 #[derive(Drop)]
@@ -31,13 +31,20 @@ fn no_keys() -> NetworkKeys<'static>
     }
 }
 
-fn sealed_by<'a>(label: &'a Text, kek: &[u8; 16], key: &[u8; 16]) -> KeyEnvelope<'a>
-    ensures { result ≡ sealed_by label.now kek.now key.now }
+// A wrapped key with its label.
+fn labelled<'a>(label: &'a Text, aes_key: [u8; 24]) -> KeyEnvelope<'a>
+    ensures { result ≡ record { kek_label = label.now; aes_key = aes_key } }
 {
     KeyEnvelope {
         kek_label: KekLabel::new(label),
-        aes_key: envelope(kek, key),
+        aes_key,
     }
+}
+
+fn sealed_by<'a>(label: &'a Text, kek: &[u8; 16], key: &[u8; 16]) -> KeyEnvelope<'a>
+    ensures { result ≡ sealed_by label.now kek.now key.now }
+{
+    labelled(label, envelope(kek, key))
 }
 
 // A key under this label, where the set has it.
@@ -53,6 +60,20 @@ fn sealed_where<'a>(
         return None;
     }
     Some(sealed_by(label, kek, key))
+}
+
+// The network's three keys, which are wrapped together.
+fn all_sealed<'a>(label: &'a Text, kek: &[u8; 16], keys: &SessionKeys) -> NetworkKeys<'a>
+    ensures f { result.f ≡ Some (sealed_by label.now kek.now keys.now.f) }
+    ensures s { result.s ≡ Some (sealed_by label.now kek.now keys.now.s) }
+    ensures e { result.e ≡ Some (sealed_by label.now kek.now keys.now.e) }
+{
+    let [f, s, e] = network_envelopes(kek, &[keys.f, keys.s, keys.e]);
+    NetworkKeys {
+        f: Some(labelled(label, f)),
+        s: Some(labelled(label, s)),
+        e: Some(labelled(label, e)),
+    }
 }
 
 // The set's keys for the device's home network. None is derived where the set has none of them.
@@ -80,6 +101,9 @@ fn for_network<'a, E: BlockFn, D: BlockFn>(
         return no_keys();
     };
     let keys = vault.session_keys(device, seed);
+    if set.f && set.s && set.e {
+        return all_sealed(&network.kek_label, &network.kek, &keys);
+    }
     NetworkKeys {
         f: sealed_where(set.f, &network.kek_label, &network.kek, &keys.f),
         s: sealed_where(set.s, &network.kek_label, &network.kek, &keys.s),

@@ -13,6 +13,10 @@ step_more kek s x n p hp e =
     let ep : p ≡ suc n = omega arith in
     rw (ep, e) refl
 
+-- all twelve
+pub all_steps : (kek k : List ℕ) (s x : Registers) (n : ℕ) → k ≡ kek → n ≡ 12 → x ≡ after k s n → x ≡ after kek s 12
+all_steps kek k s x n ek en e = e ∙ ap (λ (j : List ℕ). after j s n) ek ∙ ap (after kek s) en
+
 -- the registers after n of twelve steps were taken back
 unfoldable pub undone : List ℕ → Registers → ℕ → Registers
 undone kek s zero = s

@@ -77,14 +77,53 @@ impl Registers {
         }
     }
 
+    // What a step encrypts.
+    fn block(self) -> [u8; 16]
+        ensures { result ≡ self.a ++ self.r1 }
+    {
+        joined(self.a, self.r1)
+    }
+
+    // Those after step `t`, which has encrypted the block to `block`.
+    fn after(self, t: u64, block: [u8; 16]) -> Registers
+        ensures { result
+            ≡ record { a = xor_step (take 8 block) t; r1 = self.r2; r2 = drop 8 block } }
+    {
+        let (high, r2) = halves(block);
+        let a = xor_step(high, t);
+        let r1 = self.r2;
+        Registers { a, r1, r2 }
+    }
+
     #[tactic(auto, unfolding(crate::specs::Wrap::step))]
     pub(crate) fn step(self, keys: &RoundKeys, t: u64) -> Registers
         ensures { result ≡ step keys.now t self }
     {
-        let (high, r2) = halves(keys.encrypt(joined(self.a, self.r1)));
-        let a = xor_step(high, t);
-        let r1 = self.r2;
-        Registers { a, r1, r2 }
+        self.after(t, keys.encrypt(self.block()))
+    }
+
+    // A step of three at once, whose blocks are encrypted together.
+    #[tactic(auto, unfolding(crate::specs::Wrap::step))]
+    pub(crate) fn step_three(
+        all: (Registers, Registers, Registers),
+        keys: &RoundKeys,
+        t: u64,
+    ) -> (Registers, Registers, Registers)
+        ensures first { result.0 ≡ step keys.now t all.0 }
+        ensures second { result.1 ≡ step keys.now t all.1 }
+        ensures third { result.2 ≡ step keys.now t all.2 }
+    {
+        let (first, second, third) = all;
+        let [block1, block2, block3] = keys.encrypt_three([
+            first.block(),
+            second.block(),
+            third.block(),
+        ]);
+        (
+            first.after(t, block1),
+            second.after(t, block2),
+            third.after(t, block3),
+        )
     }
 
     #[tactic(auto, unfolding(crate::specs::Wrap::unstep))]

@@ -1,11 +1,12 @@
 -- A cell is changed.
-use Rattle.std.proofs.Common.{inl, inr, ◌≡◌, ◌≢◌, ℕ, zero, suc, ◌∷◌, ◌+◌, ◌-◌, ◌<◌, ◌≤◌, Bool, true, false, cond, List, length, get_or, map, replicate, set, eqb, Option, Some, None, refl, sym, ap, subst, ◌∙◌, arith}
-use Rattle.std.specs.Prelude.{◌||◌, is_some, not}
-use Rattle.std.proofs.lemmas.Bool.{cases_Bool}
+use Rattle.std.proofs.Common.{inl, inr, ◌≡◌, ◌≢◌, ℕ, zero, suc, ◌∷◌, ◌+◌, ◌-◌, ◌<◌, ◌≤◌, Bool, true, false, cond, List, length, get_or, map, replicate, set, eq-eqb, eqb, Option, Some, None, refl, sym, ap, subst, ◌∙◌, arith}
+use Rattle.std.specs.Prelude.{◌&&◌, ◌||◌, is_some, nat_lt, not}
+use Rattle.std.proofs.lemmas.Bool.{cases_Bool, ltb-false}
 use Rattle.std.proofs.lemmas.List.{get_or-map, get_or-replicate, get_or-set_same, get_or-set_other, length-map, length-replicate, length-set, map-set}
-use borrow.Author.Tests.{eqb-true}
+use borrow.Author.Tests.{eqb-true, ltb-true}
 use Rattle.wire_ids.specs.declared.address.DevAddr.{DevAddr}
-use Rattle.address_table.specs.Table.{AreTaken, Table, cell_at, knows, owner_of, place_of, window}
+use Rattle.address_table.specs.Table.{IsFirstFree, Table, addr_at, cell_at, is_addr, is_held, knows, owner_of, place_left, place_of, sooner, window}
+use Rattle.address_table.specs.Places.{IsFirst}
 use Rattle.address_table.specs.declared.owner.Owner.{Owner}
 
 abbrev nobody : Option Owner
@@ -76,21 +77,93 @@ owner_stray t addr own o e k = elim (cases_Bool (eqb addr.0 own.0)) [
     no : false ≡ true → ⊥
     no q = absurd cc
 
--- ---- the marks
-
-pub taken_set : (cells : List (Option Owner)) (taken : List Bool) (place : ℕ) (o : Option Owner) → taken ≡ map is_some cells → set taken place (is_some o) ≡ map is_some (set cells place o)
-taken_set cells taken place o e = ap (λ (l : List Bool). set l place (is_some o)) e ∙ sym (map-set is_some cells place o)
+-- ---- the first free address
 
 place_in : (t : Table) (i : ℕ) → i < length t.cells → place_of (record { 0 = t.first + i }) t ≡ Some i
 place_in t i lt = grind (arith, lt)
 
-pub are_taken : (t : Table) (taken : List Bool) → length t.cells ≡ window → taken ≡ map is_some t.cells → AreTaken taken t
-unfolding owner_of knows
-are_taken t taken len e = record {
-  all = ap length e ∙ length-map t.cells is_some ∙ len;
-  within = λ i lt. ap (λ (p : Option ℕ). is_some p || not t.strays) (place_in t i (omega (arith, lt, len)));
-  each = λ i lt. ap (λ (l : List Bool). get_or l i false) e ∙ get_or-map is_some t.cells i None false (omega (arith, lt, len)) ∙ sym (ap (λ (p : Option ℕ). is_some (cell_at t.cells p)) (place_in t i (omega (arith, lt, len))));
-}
+pub known_at : (t : Table) → length t.cells ≡ window → (i : ℕ) → i < window → knows (addr_at i t) t ≡ true
+unfolding knows
+known_at t len i lt = ap (λ (p : Option ℕ). is_some p || not t.strays) (place_in t i (omega (arith, lt, len)))
+
+-- a place is taken where its address has an owner
+taken_at : (t : Table) (taken : List Bool) → length t.cells ≡ window → taken ≡ map is_some t.cells → (i : ℕ) → i < window → get_or taken i false ≡ is_some (owner_of (addr_at i t) t)
+unfolding owner_of
+taken_at t taken len e i lt = ap (λ (l : List Bool). get_or l i false) e ∙ get_or-map is_some t.cells i None false (omega (arith, lt, len)) ∙ sym (ap (λ (p : Option ℕ). is_some (cell_at t.cells p)) (place_in t i (omega (arith, lt, len))))
+
+-- the one that leaves isn't that of another place
+stays_at : (t : Table) (leaving : Option DevAddr) → length t.cells ≡ window → (o : Option ℕ) → place_left leaving t ≡ o → (i : ℕ) → i < window → (o ≡ Some i → ⊥) → is_addr (addr_at i t) leaving ≡ false
+stays_at t None len o e i lt other = refl
+stays_at t (Some own) len o e i lt other = elim (cases_Bool (eqb own.0 (t.first + i))) [
+  | inl same ↦ absurd (other (sym e ∙ ap (λ (n : ℕ). place_of (record { 0 = n }) t) (eqb-true own.0 (t.first + i) same) ∙ place_in t i (omega (arith, lt, len))))
+  | inr apart ↦ apart
+]
+
+-- it is that of its own place
+left_at : (t : Table) (leaving : Option DevAddr) (place : ℕ) → place_left leaving t ≡ Some place → is_addr (addr_at place t) leaving ≡ true
+left_at t None place e = absurd cc
+left_at t (Some own) place e = let is = place_is t own place e in eq-eqb own.0 (t.first + place) (omega (arith, is))
+
+held_at : (t : Table) (taken : List Bool) (leaving : Option DevAddr) → length t.cells ≡ window → taken ≡ map is_some t.cells → (i : ℕ) → i < window → (place_left leaving t ≡ Some i → ⊥) → is_held leaving t i ≡ get_or taken i false
+held_at t taken leaving len e i lt other = ap (λ (b : Bool). not b && is_some (owner_of (addr_at i t) t)) (stays_at t leaving len (place_left leaving t) refl i lt other) ∙ sym (taken_at t taken len e i lt)
+
+some_place : (a b : ℕ) (o : Option ℕ) → o ≡ Some a → o ≡ Some b → a ≡ b
+some_place a b o e f = cc
+
+-- the address that leaves comes before the first free one
+pub first_left : (t : Table) (taken : List Bool) (leaving : Option DevAddr) → length t.cells ≡ window → taken ≡ map is_some t.cells → (free place : ℕ) → IsFirst taken free → place_left leaving t ≡ Some place → place < free → IsFirstFree leaving t (Some place)
+first_left t taken leaving len e free place f is before =
+    let room : length taken ≡ window = ap (λ (l : List Bool). length l) e ∙ length-map t.cells is_some ∙ len in (
+      omega (arith, before, f.0, room),
+      λ i lt. held_at t taken leaving len e i (omega (arith, lt, before, f.0, room)) (λ same. absurd (omega (arith, lt, some_place i place (place_left leaving t) same is))) ∙ f.1 i (omega (arith, lt, before)),
+      ap (λ (b : Bool). not b && is_some (owner_of (addr_at place t) t)) (left_at t leaving place is),
+    )
+
+-- it doesn't
+pub first_other : (t : Table) (taken : List Bool) (leaving : Option DevAddr) → length t.cells ≡ window → taken ≡ map is_some t.cells → (free : ℕ) → IsFirst taken free → ((place : ℕ) → place_left leaving t ≡ Some place → free ≤ place) → free < window → IsFirstFree leaving t (Some free)
+first_other t taken leaving len e free f after lt = (
+  lt,
+  λ i le. held_at t taken leaving len e i (omega (arith, le, lt)) (λ same. absurd (omega (arith, le, after i same))) ∙ f.1 i le,
+  unheld (is_addr (addr_at free t) leaving) (is_some (owner_of (addr_at free t) t)) (sym (taken_at t taken len e free lt) ∙ f.2),
+)
+  where
+    unheld : (a b : Bool) → b ≡ false → (not a && b) ≡ false
+    unheld true b n = refl
+    unheld false b n = n
+
+pub first_none : (t : Table) (taken : List Bool) (leaving : Option DevAddr) → length t.cells ≡ window → taken ≡ map is_some t.cells → (free : ℕ) → IsFirst taken free → ((place : ℕ) → place_left leaving t ≡ Some place → free ≤ place) → window ≤ free → IsFirstFree leaving t None
+first_none t taken leaving len e free f after le = λ i lt. held_at t taken leaving len e i lt (λ same. absurd (omega (arith, lt, le, after i same))) ∙ f.1 i (omega (arith, lt, le))
+
+pub first_found : (t : Table) (taken : List Bool) (leaving : Option DevAddr) → length t.cells ≡ window → taken ≡ map is_some t.cells → (first free : ℕ) → IsFirst taken first → free ≡ sooner first (place_left leaving t) → free < window → IsFirstFree leaving t (Some free)
+first_found t taken leaving len e first free f is lt = subst (λ (n : ℕ). IsFirstFree leaving t (Some n)) (sym is) (by (place_left leaving t) refl (subst (λ (n : ℕ). n < window) is lt))
+  where
+    by : (o : Option ℕ) → place_left leaving t ≡ o → sooner first o < window → IsFirstFree leaving t (Some (sooner first o))
+    by None is lt = first_other t taken leaving len e first f (λ place k. absurd (no place (sym is ∙ k))) lt
+      where
+        no : (place : ℕ) → None ≡ Some place → ⊥
+        no place k = absurd cc
+    by (Some left) is lt = elim (cases_Bool (nat_lt left first)) [
+      | inl before ↦ subst (λ (n : ℕ). IsFirstFree leaving t (Some n)) (sym (ap (λ (b : Bool). cond b left first) before)) (first_left t taken leaving len e first left f is (ltb-true left first before))
+      | inr after ↦
+          let same : cond (nat_lt left first) left first ≡ first = ap (λ (b : Bool). cond b left first) after in
+          subst (λ (n : ℕ). IsFirstFree leaving t (Some n)) (sym same) (first_other t taken leaving len e first f (λ place k. omega (arith, some_place left place (place_left leaving t) is k, ltb-false left first after)) (omega (arith, lt, same)))
+    ]
+
+pub none_found : (t : Table) (taken : List Bool) (leaving : Option DevAddr) → length t.cells ≡ window → taken ≡ map is_some t.cells → (first free : ℕ) → IsFirst taken first → free ≡ sooner first (place_left leaving t) → window ≤ free → IsFirstFree leaving t None
+none_found t taken leaving len e first free f is le = first_none t taken leaving len e first f (λ place k. after (place_left leaving t) place k is) (least (place_left leaving t) is)
+  where
+    least : (o : Option ℕ) → free ≡ sooner first o → window ≤ first
+    least None s = omega (arith, s, le)
+    least (Some left) s = grind (arith, s, le)
+
+    after : (o : Option ℕ) (place : ℕ) → o ≡ Some place → free ≡ sooner first o → first ≤ place
+    after None place k s = absurd cc
+    after (Some left) place k s = let room : first ≤ window = omega (arith, f.0, ap (λ (l : List Bool). length l) e, length-map t.cells is_some, len) in grind (arith, some_place left place (Some left) refl k, s, le, room)
+
+-- ---- the places that are taken
+
+pub filled : (cells : List (Option Owner)) (taken left : List Bool) (place : ℕ) (o : Option Owner) → length cells ≡ window → taken ≡ map is_some cells → left ≡ set taken place (is_some o) → (length (set cells place o) ≡ window) × (left ≡ map is_some (set cells place o))
+filled cells taken left place o len e is = (length-set cells place o ∙ len, is ∙ ap (λ (l : List Bool). set l place (is_some o)) e ∙ sym (map-set is_some cells place o))
 
 pub none_owned : (first : ℕ) (cells : List (Option Owner)) (strays : Bool) (addr : DevAddr) → cells ≡ replicate window None → owner_of addr (record { first = first; cells = cells; strays = strays }) ≡ None
 unfolding owner_of

@@ -2,6 +2,7 @@
 #![tactic(auto)]
 
 mod owner;
+mod places;
 mod table;
 
 pub use owner::Owner;

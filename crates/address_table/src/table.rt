@@ -1,9 +1,11 @@
 ghost use Rattle.std.specs.Prelude.{◌≡◌, ◌<◌, ◌==◌, length, slice_set, IfOk, None, Some, true};
-ghost use Rattle.std.specs.Prelude.{false, if◌then◌else◌, replicate};
+ghost use Rattle.std.specs.Prelude.{if◌then◌else◌, option_and_then, replicate, ℕ};
 ghost use Rattle.wire_ids.specs.declared.address.DevAddr as dev_addr;
-ghost use Rattle.address_table.specs.Table.{AreTaken, knows, owner_of, place_of, window};
+ghost use Rattle.address_table.specs.Table.{IsFirstFree, addr_at, knows, owner_of, place_of};
+ghost use Rattle.address_table.specs.Table.{place_left, sooner, window};
 
 use crate::Owner;
+use crate::places::Places;
 use std::alloc::Global;
 use std::marker::Model;
 use wire_ids::{DevAddr, Memory};
@@ -17,8 +19,8 @@ pub const WINDOW: usize = 10_368;
 pub struct AddressTable {
     first: u32,
     cells: Vec<Option<Owner>>,
-    // Which cells have an owner. They lie close together.
-    taken: Vec<bool>,
+    // Which cells have an owner.
+    taken: Places,
     strays: bool,
 }
 
@@ -35,7 +37,7 @@ impl Model for AddressTable {
     } };
 
     ghost invariant = { λ a. (length a.cells.items ≡ window)
-        × (a.taken.items ≡ map is_some a.cells.items) };
+        × (a.taken ≡ map is_some a.cells.items) };
 }
 
 // Cells without owners.
@@ -50,10 +52,14 @@ fn no_owners(alloc: Global) -> Result<Vec<Option<Owner>>, Memory>
     Ok(cells)
 }
 
-fn no_marks(alloc: Global) -> Result<Vec<bool>, Memory>
-    ensures { IfOk result (λ v. v.items ≡ replicate window false) }
+// The first free place, or the one that is left where it comes before.
+fn sooner(first: usize, left: Option<usize>) -> usize
+    ensures { result ≡ sooner first left }
 {
-    Ok(vec![in alloc; false; WINDOW]?)
+    match left {
+        Some(place) if place < first => place,
+        _ => first,
+    }
 }
 
 impl AddressTable {
@@ -65,7 +71,7 @@ impl AddressTable {
         Ok(AddressTable {
             first: first.0,
             cells: no_owners(alloc)?,
-            taken: no_marks(alloc)?,
+            taken: Places::new(alloc, WINDOW)?,
             strays: false,
         })
     }
@@ -108,14 +114,23 @@ impl AddressTable {
         }
     }
 
-    #[tactic(auto, using(crate::proofs::Cells::taken_set))]
-    fn set(&mut self, place: usize, owner: Option<Owner>)
+    // A cell comes to an owner.
+    fn fill(&mut self, place: usize, owner: Owner)
         requires { place < length self.old.cells }
         ensures { self.new
-            ≡ record self.old { cells = slice_set self.old.cells place owner } }
+            ≡ record self.old { cells = slice_set self.old.cells place (Some owner) } }
     {
-        self.cells[place] = owner;
-        self.taken[place] = owner.is_some();
+        self.cells[place] = Some(owner);
+        self.taken.take(place);
+    }
+
+    // A cell is left without one.
+    fn clear(&mut self, place: usize)
+        requires { place < length self.old.cells }
+        ensures { self.new ≡ record self.old { cells = slice_set self.old.cells place None } }
+    {
+        self.cells[place] = None;
+        self.taken.leave(place);
     }
 
     // An address without a cell comes in.
@@ -135,7 +150,7 @@ impl AddressTable {
     {
         match self.place(addr) {
             None => self.stray(),
-            Some(place) => self.set(place, Some(owner)),
+            Some(place) => self.fill(place, owner),
         }
     }
 
@@ -148,14 +163,28 @@ impl AddressTable {
     {
         match self.place(addr) {
             None => {}
-            Some(place) => self.set(place, None),
+            Some(place) => self.clear(place),
         }
     }
 
-    /// Which addresses of the window have an owner, in their order.
-    pub fn taken(&self) -> &[bool]
-        ensures { AreTaken result.now self.now }
+    // The place of the address that leaves, where it has one.
+    fn place_left(&self, leaving: Option<DevAddr>) -> Option<usize>
+        ensures { result ≡ place_left leaving self.now }
     {
-        self.taken.as_slice()
+        match leaving {
+            None => None,
+            Some(addr) => self.place(addr),
+        }
+    }
+
+    /// The place in the window of its first address without an owner, where the one that leaves
+    /// counts as such, and None where each has one. Whether they have is known of all of them.
+    pub fn first_free(&self, leaving: Option<DevAddr>) -> Option<usize>
+        ensures free { IsFirstFree leaving self.now result }
+        ensures known { (place : ℕ) → place < window →
+            knows (addr_at place self.now) self.now ≡ true }
+    {
+        let free = sooner(self.taken.first(), self.place_left(leaving));
+        if free < WINDOW { Some(free) } else { None }
     }
 }

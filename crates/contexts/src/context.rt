@@ -86,6 +86,23 @@ impl Context {
             queue: ArrayVec::new(),
         }
     }
+
+    /// The same in place of this context. What of it isn't in use is left as it lies.
+    pub(crate) fn renew(&mut self, addr: DevAddr, origin: Origin, radio: Radio)
+        ensures { self.new ≡ fresh_of addr origin radio }
+    {
+        self.addr = addr;
+        self.origin = origin;
+        self.radio = radio;
+        self.channels = channels_of(&radio);
+        self.last = None;
+        self.frame.clear();
+        self.rj0 = None;
+        self.conf = None;
+        self.next_n = 0;
+        self.next_a = 0;
+        self.queue.clear();
+    }
 }
 
 // The bit of a channel, 0 where the CFList has no frequency for it.

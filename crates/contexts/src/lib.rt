@@ -8,4 +8,4 @@ mod slots;
 
 pub use context::{Context, FrameBuf, Item, ItemQueue, Origin, Payload, channels_of};
 pub use queue::{ItemFault, first_item, next_down, push_item, take_item};
-pub use slots::{Slots, accept_up, activate, offer};
+pub use slots::{Slots, accept_up, activate, offer, offer_new};

@@ -1,8 +1,10 @@
 ghost use Rattle.std.specs.Prelude.{◌≡◌, ◌≤◌, length, None};
+ghost use Rattle.contexts.specs.Contexts.{fresh_of};
 ghost use Rattle.contexts.specs.Slots.{accepted, activated, offered};
 ghost use Rattle.contexts.specs.Sound.{IsSoundContext, IsSoundSlots};
 
-use crate::Context;
+use crate::{Context, Origin};
+use wire_ids::{DevAddr, Radio};
 
 /// The contexts of one device.
 #[derive(Drop)]
@@ -31,6 +33,18 @@ pub fn offer(slots: &mut Slots, fresh: Context)
     ensures sound { IsSoundContext fresh → IsSoundSlots slots.old → IsSoundSlots slots.new }
 {
     slots.pending = Some(fresh);
+}
+
+/// Makes a new context the pending one, as `offer` does with `Context::new`. Where one was, the new
+/// one is laid over it, since whole contexts are large.
+pub fn offer_new(slots: &mut Slots, addr: DevAddr, origin: Origin, radio: Radio)
+    ensures offered { slots.new ≡ offered (fresh_of addr origin radio) slots.old }
+    ensures sound { IsSoundSlots slots.old → IsSoundSlots slots.new }
+{
+    match &mut slots.pending {
+        None => slots.pending = Some(Context::new(addr, origin, radio)),
+        Some(context) => context.renew(addr, origin, radio),
+    }
 }
 
 /// Makes the pending context the active one, in place of the one that was. Without a pending

@@ -1,6 +1,6 @@
 -- Who has an address: at most one, and what a step leaves to those that it doesn't touch.
 use Rattle.std.proofs.Common.{inl, inr, ◌≡◌, ◌≢◌, ℕ, zero, suc, ◌+◌, ◌≤◌, Bool, true, false, cond, eqb, eq-eqb, List, [], ◌∷◌, ◌++◌, Option, Some, None, option_map, refl, sym, ap, subst, ◌∙◌, arith}
-use Rattle.std.specs.Prelude.{◌&&◌, ◌||◌, find, nat_lt, not, position, slice_get, sum_by}
+use Rattle.std.specs.Prelude.{◌&&◌, ◌||◌, find, is_some, nat_lt, not, position, slice_get, sum_by}
 use Rattle.std.specs.List.{filter, list_any}
 use Rattle.std.proofs.lemmas.Bool.{cases_Bool, eqb-true, false≢true}
 use Rattle.std.proofs.lemmas.List.Sums.{sum_by-cons}
@@ -11,7 +11,11 @@ use Rattle.wire_ids.specs.declared.party.Sender.{Sender}
 use Rattle.wire_ids.proofs.Lists.{changed-cons}
 use Rattle.address_table.specs.declared.owner.Owner.{Owner}
 use Rattle.address_table.specs.declared.owner.Owner.TheVariants as owner
-use Rattle.contexts.specs.Slots.{activated, on_active}
+use Rattle.contexts.specs.Queue.{pushed}
+use Rattle.contexts.specs.Slots as slots
+use Rattle.contexts.specs.Slots.{accepted, activated, on_active}
+use Rattle.contexts.specs.declared.context.Context.{Context}
+use Rattle.contexts.specs.declared.context.Item.{Item}
 use Rattle.contexts.specs.declared.slots.Slots.{Slots}
 use Rattle.entries.specs.declared.ask.Effect.{Effect}
 use Rattle.entries.specs.declared.ask.Effect.TheVariants as effect
@@ -21,10 +25,12 @@ use Rattle.entries.specs.declared.change.Change.{Change}
 use Rattle.entries.specs.declared.change.Change.TheVariants as change
 use Rattle.entries.specs.declared.change.RoamingKind.{RoamingKind}
 use Rattle.entries.specs.declared.change.RoamingKind.TheVariants as kind
+use Rattle.entries.specs.declared.change.OwnContext.{OwnContext}
+use Rattle.entries.specs.declared.change.Uplink.{Uplink}
 use Rattle.entries.specs.declared.entry.Event.{Event}
 use Rattle.entries.specs.declared.entry.Event.TheVariants as event
 use Rattle.entry_codec.specs.Addresses.{ask_owner, has, is_ask_with, is_guest_with, is_same_owner, is_the_owner, one_has, owner_by, touched_by, touched_by_change, touched_by_effect, touches, visitor_owner}
-use Rattle.entry_codec.specs.Devices.{called_back, heard, in_slots, joined, lent_out, marked, queued, rejoined, uses_pending, with_grant}
+use Rattle.entry_codec.specs.Devices.{answered, called_back, heard, in_slots, joined, lent_out, marked, queued, rejoined, uses_pending, with_grant}
 use Rattle.entry_codec.specs.LookUps.{asks_for, device_has, slot_has, slots_have, visitor_has}
 use Rattle.entry_codec.specs.Machine.{Machine, ask_of, asked, change_wakes, closed, granted_by, has_number, holder_of, in_visitor, is_other, is_visitor, item_of, lent_to, new_visitor, on_change, on_device, on_dropped, on_effect, on_event, on_place, on_slots, on_visitor, place_of, renewed, visit, visitor_number, visitor_waking, wake, wakes, with_count, with_rejoin, without}
 use Rattle.entry_codec.specs.Ordered.{put_in}
@@ -37,6 +43,7 @@ use Rattle.entry_codec.specs.declared.parties.OpenAsk.{OpenAsk}
 use Rattle.entry_codec.specs.declared.parties.Visitor.{Visitor}
 use Rattle.entry_codec.proofs.Ordered.{some_is}
 use Rattle.entry_codec.proofs.Places.{find-place}
+use Rattle.entry_codec.proofs.SoundDevices.{addr-answered}
 use Rattle.entry_codec.proofs.Stays.{stays-wake}
 use Rattle.entry_codec.proofs.Sums.{holds_of-changed}
 
@@ -290,6 +297,37 @@ has-on_slots None f m o a e = refl
 has-on_slots (Some (holder.Device i)) f m o a e = has-on_device i (in_slots f) m o a e
 has-on_slots (Some (holder.Visitor dev)) f m o a e = has-on_visitor dev f m o a e
 
+-- a step that leaves a holder its addresses
+has-kept_slots : (who : Option Holder) (f : Slots → Slots) (m : Machine) (o : Owner) (a : DevAddr) → ((s : Slots) → slots_have a (f s) ≡ slots_have a s) → has o a (on_slots who f m) ≡ has o a m
+unfolding has
+has-kept_slots None f m o a keeps = refl
+has-kept_slots (Some (holder.Device i)) f m (owner.Device j) a keeps = holds_of-changed (device_has a) i j (in_slots f) m.devices (λ d. keeps d.slots)
+has-kept_slots (Some (holder.Device i)) f m (owner.Visitor d) a keeps = refl
+has-kept_slots (Some (holder.Device i)) f m (owner.Ask n) a keeps = refl
+has-kept_slots (Some (holder.Visitor dev)) f m (owner.Device i) a keeps = refl
+has-kept_slots (Some (holder.Visitor dev)) f m (owner.Visitor d) a keeps = any-changed_first (is_visitor dev) (is_guest_with d a) (in_visitor f) m.visitors (λ v t. ap (λ (b : Bool). is_visitor d v && b) (keeps v.slots))
+has-kept_slots (Some (holder.Visitor dev)) f m (owner.Ask n) a keeps = refl
+
+active_same : (f : Context → Context) → ((c : Context) → (f c).addr ≡ c.addr) → (a : DevAddr) (s : Slots) → slots_have a (on_active f s) ≡ slots_have a s
+unfolding slots_have
+active_same f same a s = ap (λ (b : Bool). b || slot_has a s.pending) (by s.active)
+  where
+    by : (o : Option Context) → slot_has a (option_map f o) ≡ slot_has a o
+    by None = refl
+    by (Some c) = ap (λ (x : DevAddr). eqb x.0 a.0) (same c)
+
+heard_same : (u : Uplink) (a : DevAddr) (s : Slots) → slots_have a (heard false u.count u.frame u.down s) ≡ slots_have a s
+unfolding heard
+heard_same u a s = active_same (answered u.down) (addr-answered u.down) a (accepted false u.count u.frame s) ∙ active_same (slots.heard u.count u.frame) (λ c. refl) a s
+
+queued_same : (item : Item) (m : Machine) (i : ℕ) (o : Owner) (a : DevAddr) → has o a (on_device i (queued item) m) ≡ has o a m
+unfolding queued
+queued_same item m i o a = has-kept_slots (Some (holder.Device i)) (on_active (pushed item)) m o a (active_same (pushed item) (λ c. refl) a)
+
+joined_same : (counter join_nonce : ℕ) (d : Device) → (joined counter join_nonce None d).slots ≡ d.slots
+unfolding joined
+joined_same counter join_nonce d = refl
+
 called_same : (d : Device) → (called_back d).slots ≡ d.slots
 unfolding called_back
 called_same d = refl
@@ -321,16 +359,24 @@ untouched_by_drop kind.Visitor sender dev m o a e = by o e
 
 untouched_by_change : (sender : Sender) (c : Change) (m : Machine) (o : Owner) (a : DevAddr) → is_the_owner (touched_by_change c m) o ≡ false → has o a (on_change sender c (wake (change_wakes c m) m)) ≡ has o a m
 unfolding on_change
-untouched_by_change sender (change.Join j) m o a e = has-on_device j.device (joined j.counter j.join_nonce j.own) m o a e
+untouched_by_change sender (change.Join j) m o a e = by j.own e
+  where
+    by : (own : Option OwnContext) → is_the_owner (cond (is_some own) (Some (owner.Device j.device)) None) o ≡ false → has o a (on_device j.device (joined j.counter j.join_nonce own) m) ≡ has o a m
+    by None e = has-same j.device (joined j.counter j.join_nonce None) m o a (joined_same j.counter j.join_nonce)
+    by (Some own) e = has-on_device j.device (joined j.counter j.join_nonce (Some own)) m o a e
 untouched_by_change sender (change.Rejoin j) m o a e =
     let k = wake (change_wakes (change.Rejoin j) m) m in
     has-on_device j.device (rejoined j.used j.counter j.join_nonce j.own) k o a e ∙ waking (holds_of (uses_pending j.used) (slice_get m.devices j.device)) (holder.Device j.device) m o a e
 untouched_by_change sender (change.Lent l) m o a e = has-on_device l.device (lent_out l.used l.counter l.join_nonce (lent_to l)) m o a e
-untouched_by_change sender (change.Up u) m o a e = has-on_slots (holder_of u.dev_eui m) (heard u.pending u.count u.frame u.down) m o a e
+untouched_by_change sender (change.Up u) m o a e = by u.pending e
+  where
+    by : (pending : Bool) → is_the_owner (cond pending (option_map owner_by (holder_of u.dev_eui m)) None) o ≡ false → has o a (on_slots (holder_of u.dev_eui m) (heard pending u.count u.frame u.down) m) ≡ has o a m
+    by true e = has-on_slots (holder_of u.dev_eui m) (heard true u.count u.frame u.down) m o a e
+    by false e = has-kept_slots (holder_of u.dev_eui m) (heard false u.count u.frame u.down) m o a (heard_same u a)
 untouched_by_change sender (change.Passive p) m o a e =
     has-on_slots (holder_of p.up.dev_eui m) (heard p.up.pending p.up.count p.up.frame p.up.down) (on_place (place_of p.up.dev_eui m) (with_grant (granted_by p)) m) o a e
     ∙ has-on_place (place_of p.up.dev_eui m) (with_grant (granted_by p)) m o a (granted_same (granted_by p))
-untouched_by_change sender (change.Queue q) m o a e = has-on_device q.device (queued (item_of q)) m o a e
+untouched_by_change sender (change.Queue q) m o a e = queued_same (item_of q) m q.device o a
 untouched_by_change sender (change.Dropped d) m o a e = untouched_by_drop d.what sender d.dev_eui m o a e
 
 untouched_by_rejoin : (dev : Option Eui) (count : Option RejoinCount) (m : Machine) (o : Owner) (a : DevAddr) → is_the_owner (option_map visitor_owner dev) o ≡ false → has o a (with_rejoin dev count m) ≡ has o a m

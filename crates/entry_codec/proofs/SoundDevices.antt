@@ -381,7 +381,7 @@ addr-without_first : (items : List Item) (c : Context) → (without_first items 
 addr-without_first [] c = refl
 addr-without_first (item ∷ items) c = refl
 
-addr-answered : (d : Downlink) (c : Context) → (answered d c).addr ≡ c.addr
+pub addr-answered : (d : Downlink) (c : Context) → (answered d c).addr ≡ c.addr
 addr-answered down.Nothing c = refl
 addr-answered down.Empty c = addr-drawn c
 addr-answered down.FirstItem c = addr-without_first c.queue.items c

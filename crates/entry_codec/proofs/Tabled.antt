@@ -9,18 +9,18 @@ use Rattle.wire_ids.specs.Lists.{holds_of}
 use Rattle.wire_ids.specs.declared.address.DevAddr.{DevAddr}
 use Rattle.wire_ids.specs.declared.eui.Eui.{Eui}
 use Rattle.wire_ids.proofs.Lists.{sum_by-map_le}
-use Rattle.address_table.specs.Table.{AreTaken, Table, knows, owner_of, window}
+use Rattle.address_table.specs.Table.{IsFirstFree as IsFirstLeft, Table, addr_at, is_addr as is_own_addr, is_held, knows, owner_of, window}
 use Rattle.address_table.specs.declared.owner.Owner.{Owner}
 use Rattle.address_table.specs.declared.owner.Owner.TheVariants as owner
 use Rattle.contexts.specs.declared.slots.Slots.{Slots}
 use Rattle.entry_codec.specs.Addresses.{IsTable, IsTableBut, PutIn, TakenOut, ask_ended, guest_ended, has, has_ended, holder_by, is_an_ask, is_ask_with, is_guest_with, is_the_owner, one_has, touched_by, touches}
-use Rattle.entry_codec.specs.LookUps.{asks_for, device_has, holder_from, holder_with, is_taken, live_at, live_context, lives, slot_has, slots_have, visitor_has}
+use Rattle.entry_codec.specs.LookUps.{is_addr, asks_for, device_has, holder_from, holder_with, is_taken, live_at, live_context, lives, slot_has, slots_have, visitor_has}
 use Rattle.entry_codec.specs.Machine.{Machine, after, entered, has_number, is_open, is_visitor, lapse, on_event, ready, visits, wake, wakes}
 use Rattle.agreements.specs.Walk.{Config}
 use Rattle.entries.specs.declared.entry.Entry.{Entry}
 use Rattle.entry_codec.specs.Devices.{lapsed}
 use Rattle.entry_codec.specs.Empty.{empty}
-use Rattle.entry_codec.specs.Free.{Marks, addr_of}
+use Rattle.entry_codec.specs.Free.{IsFirstFree, leaving}
 use Rattle.entry_codec.proofs.SoundEmpty.{uses_empty}
 use Rattle.entry_codec.specs.Ordered.{IsRisingFrom}
 use Rattle.entries.specs.declared.entry.Event.{Event}
@@ -38,7 +38,7 @@ use Rattle.entry_codec.proofs.Places.{find-place}
 use Rattle.entry_codec.proofs.Ready.{device_lapsed, has-lapsed}
 use Rattle.entry_codec.proofs.SoundDevices.{use-lapsed}
 use Rattle.entry_codec.proofs.Sums.{holds_same}
-use Rattle.entry_codec.proofs.Window.{any_filter}
+use Rattle.entry_codec.proofs.Window.{any_filter, awake_taken}
 
 pub or_nothing : (b : Bool) → (b || false) ≡ b
 or_nothing true = refl
@@ -520,10 +520,26 @@ pub context_known : (t : Table) (m : Machine) (a : DevAddr) → IsTable t m → 
 unfolding live_context
 context_known t m a h kn = ap (λ (o : Option Holder). live_at a o m) (sym (holder_known t m a h kn))
 
-pub marks_known : (t : Table) (m : Machine) (first : ℕ) (old taken : List Bool) → IsTable t m → AreTaken taken t → t.first ≡ first → length old ≡ window → ((i : ℕ) → i < window → get_or old i false ≡ false) → Marks first (λ (a : DevAddr). is_taken a m) old taken
-marks_known t m first old taken h are is len fresh = subst (λ (n : ℕ). Marks n (λ (a : DevAddr). is_taken a m) old taken) is (
-  are.all ∙ sym len,
-  λ i lt.
-      let within : i < window = omega (arith, lt, len) in
-      are.each i within ∙ sym (taken_known t m (addr_of (t.first + i)) h (are.within i within)) ∙ ap (λ (b : Bool). b || is_taken (addr_of (t.first + i)) m) (sym (fresh i within)),
-)
+-- ---- the first free address
+
+same_addr : (a : DevAddr) (o : Option DevAddr) → is_own_addr a o ≡ is_addr a o
+same_addr a None = refl
+same_addr a (Some own) = refl
+
+held_is : (t : Table) (at : ℕ) (who : Option Holder) (m : Machine) (i : ℕ) → IsSound m → IsTable t (lapse at m) → knows (addr_at i t) t ≡ true → is_held (leaving who (lapse at m)) t i ≡ is_taken (addr_at i t) (wake who (lapse at m))
+held_is t at who m i h are kn =
+    let a = addr_at i t in
+    let l = lapse at m in
+    ap (λ (b : Bool). not b && is_some (owner_of a t)) (same_addr a (leaving who l)) ∙ ap (λ (b : Bool). not (is_addr a (leaving who l)) && b) (sym (taken_known t l a are kn)) ∙ sym (awake_taken a at who m h)
+
+pub first_known : (t : Table) (at first : ℕ) (who : Option Holder) (m : Machine) (gone : Option DevAddr) (o : Option ℕ) → IsSound m → IsTable t (lapse at m) → t.first ≡ first → gone ≡ leaving who (lapse at m) → ((i : ℕ) → i < window → knows (addr_at i t) t ≡ true) → IsFirstLeft gone t o
+    → IsFirstFree first (λ (a : DevAddr). is_taken a (wake who (lapse at m))) o
+first_known t at first who m gone o h are is goes kn free = subst (λ (n : ℕ). IsFirstFree n (λ (a : DevAddr). is_taken a (wake who (lapse at m))) o) is (by o (subst (λ (g : Option DevAddr). IsFirstLeft g t o) goes free))
+  where
+    by : (p : Option ℕ) → IsFirstLeft (leaving who (lapse at m)) t p → IsFirstFree t.first (λ (a : DevAddr). is_taken a (wake who (lapse at m))) p
+    by None f = λ i lt. sym (held_is t at who m i h are (kn i lt)) ∙ f i lt
+    by (Some n) f = (
+      f.0,
+      λ i lt. sym (held_is t at who m i h are (kn i (omega (arith, lt, f.0)))) ∙ f.1 i lt,
+      sym (held_is t at who m n h are (kn n f.0)) ∙ f.2,
+    )

@@ -76,6 +76,10 @@ leaves_is : (a : DevAddr) (who : Option Holder) (m : Machine) → leaves a who m
 unfolding leaves
 leaves_is a who m = leaves_by a (slots_of who m)
 
+-- what is taken once the pending context is active
+pub awake_taken : (a : DevAddr) (at : ℕ) (who : Option Holder) (m : Machine) → IsSound m → is_taken a (wake who (lapse at m)) ≡ (not (is_addr a (leaving who (lapse at m))) && is_taken a (lapse at m))
+awake_taken a at who m h = taken_awake a who (lapse at m) (sound_lapsed at m h) ∙ ap (λ (b : Bool). not b && is_taken a (lapse at m)) (leaves_is a who (lapse at m))
+
 pub awake_marks : (first at : ℕ) (who : Option Holder) (m : Machine) (new : List Bool) (old : List Bool) → IsSound m → length new ≡ length old
     → ((i : ℕ) → i < length old → get_or old i false ≡ is_taken (addr_of (first + i)) (lapse at m))
     → ((i : ℕ) → i < length old → get_or new i false ≡ (not (is_addr (addr_of (first + i)) (leaving who (lapse at m))) && get_or old i false))
@@ -83,7 +87,7 @@ pub awake_marks : (first at : ℕ) (who : Option Holder) (m : Machine) (new : Li
 awake_marks first at who m new old h len taken gone i within =
     let a = addr_of (first + i) in
     let lt : i < length old = omega (arith, within, len) in
-    gone i lt ∙ ap (λ (b : Bool). not (is_addr a (leaving who (lapse at m))) && b) (taken i lt) ∙ ap (λ (b : Bool). not b && is_taken a (lapse at m)) (sym (leaves_is a who (lapse at m))) ∙ sym (taken_awake a who (lapse at m) (sound_lapsed at m h))
+    gone i lt ∙ ap (λ (b : Bool). not (is_addr a (leaving who (lapse at m))) && b) (taken i lt) ∙ sym (awake_taken a at who m h)
 
 -- ---- the first that is free
 

@@ -1,5 +1,5 @@
 -- Who has which address, and the table of it.
-use Rattle.std.specs.Prelude.{◌≡◌, ℕ, ◌==◌, ◌&&◌, ◌||◌, not, slice_get, Option, Some, None, option_map, Bool, true, false, if◌then◌else◌}
+use Rattle.std.specs.Prelude.{◌≡◌, ℕ, ◌==◌, ◌&&◌, ◌||◌, not, slice_get, Option, Some, None, is_some, option_map, Bool, true, false, if◌then◌else◌}
 use Rattle.std.specs.List.{list_any}
 use Rattle.wire_ids.specs.Lists.{holds_of}
 use Rattle.wire_ids.specs.declared.address.DevAddr.{DevAddr}
@@ -97,13 +97,14 @@ holder_by (Some (owner.Device device)) = Some (holder.Device device)
 holder_by (Some (owner.Visitor dev)) = Some (holder.Visitor dev)
 holder_by (Some (owner.Ask number)) = None
 
+-- a join without a context, an uplink under the active context and a payload leave all addresses as they are
 abbrev pub touched_by_change : Change → Machine → Option Owner
-touched_by_change (change.Join j) m = Some (owner.Device j.device)
+touched_by_change (change.Join j) m = if is_some j.own then Some (owner.Device j.device) else None
 touched_by_change (change.Rejoin j) m = Some (owner.Device j.device)
 touched_by_change (change.Lent l) m = Some (owner.Device l.device)
-touched_by_change (change.Up u) m = option_map owner_by (holder_of u.dev_eui m)
+touched_by_change (change.Up u) m = if u.pending then option_map owner_by (holder_of u.dev_eui m) else None
 touched_by_change (change.Passive p) m = option_map owner_by (holder_of p.up.dev_eui m)
-touched_by_change (change.Queue q) m = Some (owner.Device q.device)
+touched_by_change (change.Queue q) m = None
 touched_by_change (change.Dropped d) m = Some (owner.Visitor d.dev_eui)
 
 abbrev pub touched_by_effect : Effect → Option Owner

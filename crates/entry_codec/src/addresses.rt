@@ -309,12 +309,14 @@ impl Now {
         ensures { result ≡ touched_by_change change.now self.now.machine }
     {
         match change {
-            Change::Join(join) => Some(Owner::Device(join.device)),
+            Change::Join(join) if join.own.is_some() => Some(Owner::Device(join.device)),
+            Change::Join(_) => None,
             Change::Rejoin(join) => Some(Owner::Device(join.device)),
             Change::Lent(lending) => Some(Owner::Device(lending.device)),
-            Change::Up(up) => owner_by(self.holder(index, up.dev_eui)),
+            Change::Up(up) if up.pending => owner_by(self.holder(index, up.dev_eui)),
+            Change::Up(_) => None,
             Change::Passive(passive) => owner_by(self.holder(index, passive.up.dev_eui)),
-            Change::Queue(queued) => Some(Owner::Device(queued.device)),
+            Change::Queue(_) => None,
             Change::Dropped(stopped) => Some(Owner::Visitor(stopped.dev_eui)),
         }
     }

@@ -12,7 +12,7 @@ ghost use Rattle.entry_codec.specs.Devices.{with_count, with_own, with_seed, wit
 
 use crate::uplink::queue;
 use arrayvec::ArrayVec;
-use contexts::{Context, Item, Origin, Slots, offer};
+use contexts::{Context, Item, Origin, Slots, offer_new};
 use entries::{OwnContext, UsedSeed};
 use wire_ids::{Eui, Moment, NetId, Nonce24, Seed};
 
@@ -61,25 +61,26 @@ impl Default for Granted {
     }
 }
 
-/// What the desk keeps of a device of the tables.
+/// What the desk keeps of a device of the tables. The fields lie in memory in this order: those that
+/// a join reads and the contexts stand together.
 #[derive(Drop)]
 pub struct Device {
+    /// By NetID.
+    pub granted: ArrayVec<Granted, 32>,
+    /// The seeds of its last activations, the newest first.
+    pub seeds: ArrayVec<KeptSeed, 4>,
     pub dev_eui: Eui,
     pub join_eui: Eui,
     /// Whether it is at home in the desk's own network.
     pub is_home: bool,
+    pub suspended: bool,
+    pub lent: Option<LentTo>,
     /// The last DevNonce.
     pub dev_nonce: Option<u16>,
     /// The last RJcount1.
     pub rj_count1: Option<u16>,
     /// The last JoinNonce, 0 for none.
     pub join_nonce: Nonce24,
-    /// The seeds of its last activations, the newest first.
-    pub seeds: ArrayVec<KeptSeed, 4>,
-    pub suspended: bool,
-    pub lent: Option<LentTo>,
-    /// By NetID.
-    pub granted: ArrayVec<Granted, 32>,
     pub slots: Slots,
 }
 
@@ -116,8 +117,8 @@ impl Device {
         ensures { self.new ≡ with_own seed.now own self.old }
     {
         if let Some(own) = own {
-            let fresh = Context::new(own.dev_addr, Origin::Seeded(*seed), own.radio);
-            offer(&mut self.slots, fresh);
+            let origin = Origin::Seeded(*seed);
+            offer_new(&mut self.slots, own.dev_addr, origin, own.radio);
             self.lent = None;
         }
     }

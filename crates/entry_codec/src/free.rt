@@ -1,4 +1,5 @@
-//! The least free address of a network, found in one pass over all that have addresses.
+//! The least free address of a network: the table has it, and where it doesn't, one pass over all
+//! that have addresses finds it.
 
 ghost use Rattle.std.specs.Prelude.{◌≡◌, ◌+◌, ◌<◌, ◌&&◌, ℕ, false, length, not};
 ghost use Rattle.std.specs.Prelude.{IfSome, option_map, position, slice_index_or};
@@ -6,7 +7,7 @@ ghost use Rattle.std.specs.List.{list_any};
 ghost use Rattle.wire_ids.specs.declared.address.DevAddr as dev_addr;
 ghost use Rattle.entry_codec.specs.Free.{IsFirstFree, Marks, addr_of, ask_stays, free_address};
 ghost use Rattle.entry_codec.specs.Addresses.{IsTable};
-ghost use Rattle.entry_codec.specs.Free.{is_the, leaving, slots_leave, visitor_stays, window};
+ghost use Rattle.entry_codec.specs.Free.{is_the, leaving, slots_leave, visitor_stays};
 ghost use Rattle.entry_codec.specs.LookUps.{device_has, is_addr, is_taken, slot_has, slots_have};
 ghost use Rattle.entry_codec.specs.Machine.{lapse, wake};
 ghost use Rattle.entry_codec.specs.Sound.{IsSound};
@@ -144,22 +145,20 @@ impl Now {
         mark_asks(marks, first, self.asks.as_slice(), at);
     }
 
-    // The same, by the table where it has this window.
-    #[tactic(auto, using(crate::proofs::Tabled::marks_known))]
-    fn mark_known(&self, table: Option<&AddressTable>, marks: &mut [bool], first: u32, at: u64)
-        requires size { length marks.old ≡ window }
-        requires fresh { (i : ℕ) → i < window → slice_index_or marks.old i false ≡ false }
-        requires table { IfSome table (λ t. IsTable t.now (lapse at self.now.machine)) }
-        ensures { Marks first (λ (a : dev_addr.DevAddr). is_taken a (lapse at self.now.machine))
-            marks.old marks.new }
+    // The first number of the window that is free, found in one pass.
+    fn first_unmarked(&self, first: u32, who: Option<Holder>, at: u64) -> Option<usize>
+        requires { IsSound self.now.machine }
+        ensures { IsFirstFree first
+            (λ (a : dev_addr.DevAddr). is_taken a (wake who (lapse at self.now.machine)))
+            result }
     {
-        match table {
-            Some(table) if table.first().0 == first => marks.copy_from_slice(table.taken()),
-            _ => self.mark_taken(marks, first, at),
-        }
+        let mut marks = [false; WINDOW];
+        self.mark_taken(&mut marks, first, at);
+        unmark(&mut marks, first, self.leaving(who, at));
+        first_free(&marks)
     }
 
-    // The first number of the window that is free.
+    // The same, by the table where it has this window.
     fn free_in_window(
         &self,
         table: Option<&AddressTable>,
@@ -173,10 +172,10 @@ impl Now {
             (λ (a : dev_addr.DevAddr). is_taken a (wake who (lapse at self.now.machine)))
             result }
     {
-        let mut marks = [false; WINDOW];
-        self.mark_known(table, &mut marks, first, at);
-        unmark(&mut marks, first, self.leaving(who, at));
-        first_free(&marks)
+        match table {
+            Some(table) if table.first().0 == first => table.first_free(self.leaving(who, at)),
+            _ => self.first_unmarked(first, who, at),
+        }
     }
 
     /// The least address of the network that no context and no open ask has at a moment, once the

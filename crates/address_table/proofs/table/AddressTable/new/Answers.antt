@@ -7,7 +7,7 @@ use Rattle.address_table.proofs.table.AddressTable.new.Goals as goal
 pub invariant_of-result : goal.invariant_of-result
 invariant_of-result c = (
   ap (λ (l : List (Option Owner)). length l) c.in_ok-no_owners.ensures ∙ none_there,
-  c.in_ok-no_marks.ensures ∙ none_marked ∙ sym (ap (map is_some) c.in_ok-no_owners.ensures),
+  c.in_ok-new.ensures ∙ none_marked ∙ sym (ap (map is_some) c.in_ok-no_owners.ensures),
 )
 
 pub returns : goal.returns

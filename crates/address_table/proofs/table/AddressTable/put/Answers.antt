@@ -12,7 +12,7 @@ returns-in-None-clause-owners c own k =
     ∙ owner_stray c.args.self.now c.args.addr own (Some c.args.owner) (sym c.place.ensures ∙ c.in-None.is) (subst (λ (t : Table). knows own t ≡ true) c.stray.ensures k)
 
 pub returns-in-Some-clause-known : goal.returns-in-Some-clause-known
-returns-in-Some-clause-known c own k = sym (ap (knows own) c.set.ensures ∙ knows_set c.args.self.now own c.in-Some.place (Some c.args.owner)) ∙ k
+returns-in-Some-clause-known c own k = sym (ap (knows own) c.fill.ensures ∙ knows_set c.args.self.now own c.in-Some.place (Some c.args.owner)) ∙ k
 
 pub returns-in-Some-clause-owners : goal.returns-in-Some-clause-owners
-returns-in-Some-clause-owners c own k = ap (owner_of own) c.set.ensures ∙ owner_set c.args.self.now c.args.addr own c.in-Some.place (Some c.args.owner) (sym c.place.ensures ∙ c.in-Some.is)
+returns-in-Some-clause-owners c own k = ap (owner_of own) c.fill.ensures ∙ owner_set c.args.self.now c.args.addr own c.in-Some.place (Some c.args.owner) (sym c.place.ensures ∙ c.in-Some.is)

@@ -1,22 +1,12 @@
-use Rattle.std.proofs.Common.{◌+◌, Bool, false, Option, ap, arith, get_or, refl, sym, ◌∙◌}
-use Rattle.std.specs.Prelude.{◌&&◌, ◌||◌, not}
-use Rattle.std.proofs.lemmas.List.{get_or-replicate}
-use Rattle.wire_ids.specs.declared.address.DevAddr.{DevAddr}
-use Rattle.entry_codec.specs.Free.{addr_of}
-use Rattle.entry_codec.specs.LookUps.{is_addr, is_taken}
-use Rattle.entry_codec.specs.Machine.{lapse, wake}
-use Rattle.entry_codec.proofs.Window.{awake_marks, first_free}
+use Rattle.std.proofs.Common.{Option, subst, sym, ◌∙◌}
+use Rattle.std.specs.Prelude.{IfSome}
+use Rattle.entry_codec.specs.Addresses.{IsTable}
+use Rattle.entry_codec.specs.Machine.{lapse}
+use Rattle.entry_codec.proofs.Tabled.{first_known}
 use Rattle.entry_codec.proofs.now.Now.free_in_window.Goals as goal
 
-pub mark_known-requires-clause-fresh : goal.mark_known-requires-clause-fresh
-mark_known-requires-clause-fresh c = λ i lt. get_or-replicate 10368 i false false lt
-
-pub returns : goal.returns
-returns c =
-    let m = c.args.self.now.machine in
-    let at = c.args.at in
-    let old = c.mark_known.new.marks in
-    let new = c.unmark.new.marks in
-    first_free c.args.first (λ (a : DevAddr). is_taken a (wake c.args.who (lapse at m))) new c.first_free.result (c.unmark.ensures.0 ∙ c.mark_known.ensures.0 ∙ refl) (sym c.first_free.ensures)
-    (awake_marks c.args.first at c.args.who m new old c.requires.sound c.unmark.ensures.0 (λ i lt. c.mark_known.ensures.1 i (omega (arith, lt, c.mark_known.ensures.0)) ∙ ap (λ (b : Bool). b || is_taken (addr_of (c.args.first + i)) (lapse at m)) (get_or-replicate 10368 i false false (omega (arith, lt, c.mark_known.ensures.0))))
-    (λ i lt. c.unmark.ensures.1 i lt ∙ ap (λ (o : Option DevAddr). not (is_addr (addr_of (c.args.first + i)) o) && get_or old i false) c.leaving.ensures))
+pub returns-in-Some : goal.returns-in-Some
+returns-in-Some c = first_known c.in-Some.table.now c.args.at c.args.first c.args.who c.args.self.now.machine c.leaving.result c.first_free.result c.requires.sound table (sym c.first.ensures ∙ c.if-first.true) c.leaving.ensures c.first_free.ensures.known c.first_free.ensures.free
+  where
+    table : IsTable c.in-Some.table.now (lapse c.args.at c.args.self.now.machine)
+    table = subst (λ (o : Option _). IfSome o (λ t. IsTable t.now (lapse c.args.at c.args.self.now.machine))) c.in-Some.is c.requires.table

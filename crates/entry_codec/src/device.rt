@@ -61,8 +61,8 @@ impl Default for Granted {
     }
 }
 
-/// What the desk keeps of a device of the tables. The fields lie in memory in this order: those that
-/// a join reads and the contexts stand together.
+/// What the desk keeps of a device of the tables. The fields lie in memory in this order, so that
+/// what a request reads of them stands together.
 #[derive(Drop)]
 pub struct Device {
     /// By NetID.

@@ -91,7 +91,7 @@ fields_of c ack Empty = option_map (empty_fields c ack) (next_of c)
 fields_of c ack FirstItem = option_map (item_fields c ack) (first_of c)
 
 -- the downlink that answers an uplink of this counter at this rate
-unfoldable pub down_fields : Context → List ℕ → ℕ → ℕ → Option written.Downlink
+abbrev pub down_fields : Context → List ℕ → ℕ → ℕ → Option written.Downlink
 down_fields c frame rate count = fields_of c (ack_of frame count) (down_of c frame rate)
 
 abbrev pub text_under : Option SessionKeys → Option written.Downlink → Option (List ℕ)

@@ -4,7 +4,7 @@ ghost use Rattle.std.specs.Prelude.{◌≡◌, ◌≤◌, length, option_map, If
 ghost use Rattle.std.specs.Prelude.{[]};
 ghost use Rattle.data_frames.specs.DataForms as data_forms;
 ghost use Rattle.data_frames.specs.Downlinks.{downlink_of};
-ghost use Rattle.exchanges.specs.Downlinks.{ack_of, down_fields, down_of, fields_of, fits_at};
+ghost use Rattle.exchanges.specs.Downlinks.{ack_of, down_of, fields_of, fits_at};
 ghost use Rattle.exchanges.specs.Downlinks.{has_fitting_item, payload_limit, rx1_rate, text_under};
 ghost use Rattle.exchanges.specs.Downlinks.{wants_downlink};
 ghost use Rattle.exchanges.specs.Frames.{HasFields};
@@ -60,9 +60,9 @@ fn wants_downlink(up: &DataUp<'_>) -> bool
     up.confirmed || up.adr_ack_req
 }
 
-// Which downlink answers an uplink that was heard at this rate.
+/// Which downlink answers an uplink that was heard over this context at this rate.
 #[tactic(auto, unfolding(crate::specs::Downlinks::down_of))]
-fn down_of(context: &Context, up: &DataUp<'_>, rate: u8) -> Downlink
+pub fn down_of(context: &Context, up: &DataUp<'_>, rate: u8) -> Downlink
     requires { HasFields up.now.whole.now (data_forms.fields_of up.now) }
     ensures { result ≡ down_of context.now up.now.whole.now rate }
 {
@@ -118,29 +118,25 @@ fn fields_of(context: &Context, ack: Option<u32>, down: Downlink) -> Option<Down
     }
 }
 
-/// Which downlink answers an uplink of this counter at this rate, and its frame under the session's
-/// keys, where there is one.
-#[tactic(auto, unfolding(crate::specs::Downlinks::down_fields))]
+/// The frame of this downlink, which answers an uplink of this counter, under the session's keys;
+/// none where there is no downlink. The one error is want of memory.
 pub fn downlink_behind(
     alloc: Global,
     keys: &SessionKeys,
     context: &Context,
     up: &DataUp<'_>,
-    rate: u8,
     count: u32,
-) -> Result<(Downlink, Option<Text>), Memory>
+    down: Downlink,
+) -> Result<Option<Text>, Memory>
     requires { HasFields up.now.whole.now (data_forms.fields_of up.now) }
-    ensures down { IfOk result (λ d. d.0 ≡ down_of context.now up.now.whole.now rate) }
-    ensures frame { IfOk result (λ d. d.1
-        ≡ text_under (Some keys.now) (down_fields context.now up.now.whole.now rate count)) }
+    ensures { IfOk result (λ frame. frame ≡ text_under (Some keys.now)
+        (fields_of context.now (ack_of up.now.whole.now count) down)) }
 {
-    let down = down_of(context, up, rate);
     match fields_of(context, ack_of(up, count), down) {
-        None => Ok((down, None)),
+        None => Ok(None),
         Some(fields) => {
             let frame = write_down(keys, &fields);
-            let text = Text::of_slice(alloc, frame.as_slice())?;
-            Ok((down, Some(text)))
+            Ok(Some(Text::of_slice(alloc, frame.as_slice())?))
         }
     }
 }

@@ -7,6 +7,6 @@ mod frames;
 pub mod laws;
 mod valid;
 
-pub use downlink::downlink_behind;
+pub use downlink::{down_of, downlink_behind};
 pub use frames::data_up;
 pub use valid::{Count, up_valid};

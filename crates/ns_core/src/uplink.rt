@@ -24,7 +24,7 @@ use backend_json::{Answer, Head, Outcome, Refusal, UplinkAnswer, UplinkRequest};
 use data_frames::DataUp;
 use entries::{Change, Downlink, Uplink};
 use entry_codec::State;
-use exchanges::{Count, downlink_behind};
+use exchanges::{Count, down_of, downlink_behind};
 use js_core::JsDecision;
 use key_vault::{BlockFn, Vault};
 use std::alloc::Global;
@@ -92,22 +92,18 @@ fn counted_with<'a>(
     up: &DataUp<'_>,
     speaker: &Speaking<'_>,
     valid: &Valid,
+    down: Downlink,
 ) -> Result<JsDecision<'a>, Memory>
     requires fields { HasFields request.now.phy_payload (fields_of up.now) }
     requires whole { up.now.whole.now ≡ request.now.phy_payload }
+    requires down { down
+        ≡ down_of speaker.now.context.now request.now.phy_payload request.now.data_rate }
     ensures { (nwk : ℕ → List ℕ) → keys_of nwk speaker.now.holder speaker.now.context.now.origin
         ≡ Some valid.now.keys → IfOk result (λ d. d ≡ counted_with nwk head request.now
         (speaker_now speaker.now) (Some valid.now.count)) }
 {
     let Valid { keys, count } = valid;
-    let (down, frame) = downlink_behind(
-        alloc,
-        keys,
-        speaker.context,
-        up,
-        request.data_rate,
-        count.count,
-    )?;
+    let frame = downlink_behind(alloc, keys, speaker.context, up, count.count, down)?;
     let change = up_of(alloc, speaker, request, count, down)?;
     let answer = heard_answer(head, speaker, Some(count.count), frame);
     Ok(Decision::Accept(answer, change))
@@ -139,8 +135,10 @@ pub(crate) fn data_decision<'a, E: BlockFn, D: BlockFn>(
     if is_duplicate(request.phy_payload.as_slice(), &speaker) {
         return duplicate_decision(head, &speaker);
     }
+    // It reads what lies apart from the rest of the context, while the keys aren't there yet.
+    let down = down_of(speaker.context, up, request.data_rate);
     match valid_of(vault, up, request.data_rate, &speaker) {
-        Some(valid) => counted_with(alloc, head, request, up, &speaker, &valid),
+        Some(valid) => counted_with(alloc, head, request, up, &speaker, &valid, down),
         None => refusal_decision(head, Refusal::Mic),
     }
 }

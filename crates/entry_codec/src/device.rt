@@ -62,26 +62,26 @@ impl Default for Granted {
 }
 
 /// What the desk keeps of a device of the tables. The fields lie in memory in this order, so that
-/// what a request reads of them stands together.
+/// what a request reads of them stands in few lines of it.
 #[derive(Drop)]
 pub struct Device {
     /// By NetID.
     pub granted: ArrayVec<Granted, 32>,
     /// The seeds of its last activations, the newest first.
     pub seeds: ArrayVec<KeptSeed, 4>,
+    pub lent: Option<LentTo>,
     pub dev_eui: Eui,
     pub join_eui: Eui,
+    /// The last JoinNonce, 0 for none.
+    pub join_nonce: Nonce24,
+    /// The last DevNonce.
+    pub dev_nonce: Option<u16>,
     /// Whether it is at home in the desk's own network.
     pub is_home: bool,
     pub suspended: bool,
-    pub lent: Option<LentTo>,
-    /// The last DevNonce.
-    pub dev_nonce: Option<u16>,
+    pub slots: Slots,
     /// The last RJcount1.
     pub rj_count1: Option<u16>,
-    /// The last JoinNonce, 0 for none.
-    pub join_nonce: Nonce24,
-    pub slots: Slots,
 }
 
 impl Device {
@@ -135,8 +135,8 @@ impl Device {
         };
         self.dev_nonce = Some(counter);
         self.join_nonce = join_nonce;
-        self.put_seed(&seed);
         self.offer_own(&seed, own);
+        self.put_seed(&seed);
     }
 
     fn count_at(&mut self, place: u8, counter: u16)

@@ -1,7 +1,7 @@
 //! Joins and rejoins of devices that are at home here.
 
 ghost use Rattle.std.specs.Prelude.{◌≡◌, ◌<◌, length, slice_get, IfErr, IfOk, None, Some};
-ghost use Rattle.std.specs.Prelude.{true, false};
+ghost use Rattle.std.specs.Prelude.{is_some, true, false};
 ghost use Rattle.entry_codec.specs.Machine.{lapse};
 ghost use Rattle.key_vault.specs.Table.{nwk_at};
 ghost use Rattle.wire_ids.specs.Rules.{first_rule};
@@ -29,6 +29,8 @@ pub struct HomeStep<'a> {
     pub number: u32,
     pub row: &'a DeviceRow,
     pub kept: &'a Device,
+    /// Whether a pending context waits for its first uplink.
+    pub has_pending: bool,
     pub step: JoinStep,
 }
 
@@ -51,6 +53,7 @@ fn step_now<'a, E: BlockFn, D: BlockFn>(
     ensures number { IfOk result (λ s. s.number < length tables.now.devices) }
     ensures row { IfOk result (λ s. slice_get tables.now.devices s.number ≡ Some s.row.now) }
     ensures kept { IfOk result (λ s. slice_get state.now.now.devices s.number ≡ Some s.kept.now) }
+    ensures pending { IfOk result (λ s. s.has_pending ≡ is_some s.kept.now.slots.pending) }
     ensures home { IfOk result (λ s. s.kept.now.is_home ≡ true) }
     ensures step { IfOk result (λ s. s.step
         ≡ step_of (nwk_at vault.now s.number) frame.now up.now s.kept.now) }
@@ -59,6 +62,8 @@ fn step_now<'a, E: BlockFn, D: BlockFn>(
     let Some(device) = found_device(tables, state, dev_eui(up)) else {
         return Err(Refusal::Device);
     };
+    // It lies apart from the rest of the row, and is read beside it.
+    let has_pending = device.kept.slots.pending.is_some();
     if !device.kept.is_home {
         return Err(Refusal::Device);
     }
@@ -70,6 +75,7 @@ fn step_now<'a, E: BlockFn, D: BlockFn>(
             number: device.number,
             row: device.row,
             kept: device.kept,
+            has_pending,
             step,
         }),
         Err(refusal) => Err(refusal),
@@ -97,6 +103,7 @@ pub fn home_step<'a, E: BlockFn, D: BlockFn>(
     ensures number { IfOk result (λ s. s.number < length tables.now.devices) }
     ensures row { IfOk result (λ s. slice_get tables.now.devices s.number ≡ Some s.row.now) }
     ensures kept { IfOk result (λ s. slice_get state.now.now.devices s.number ≡ Some s.kept.now) }
+    ensures pending { IfOk result (λ s. s.has_pending ≡ is_some s.kept.now.slots.pending) }
     ensures home { IfOk result (λ s. s.kept.now.is_home ≡ true) }
     ensures step { IfOk result (λ s. s.step
         ≡ step_of (nwk_at vault.now s.number) frame.now up.now (home_found now.0 s).kept) }

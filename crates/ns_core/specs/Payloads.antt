@@ -3,7 +3,6 @@ use Rattle.std.specs.Prelude.{◌≡◌, ℕ, ◌==◌, ◌||◌, nat_lt, not, L
 use Rattle.wire_ids.specs.Lists.{holds_of}
 use Rattle.wire_ids.specs.Rules.{Rule}
 use Rattle.wire_ids.specs.declared.decision.Decision.TheVariants as decision
-use Rattle.wire_ids.specs.declared.eui.Eui.{Eui}
 use Rattle.agreements.specs.Walk.{Config}
 use Rattle.backend_json.specs.declared.answer.Answer.{Answer}
 use Rattle.backend_json.specs.declared.answer.Answer.TheVariants.{Headed}

@@ -1,5 +1,5 @@
 -- The session that a context began with.
-use Rattle.std.specs.Prelude.{ℕ, ◌==◌, ◌&&◌, Bool, Option, Some, None}
+use Rattle.std.specs.Prelude.{◌==◌, ◌&&◌, Bool, Option, Some, None}
 use Rattle.wire_ids.specs.Lists.{holds_of}
 use Rattle.wire_ids.specs.declared.eui.Eui.{Eui}
 use Rattle.backend_json.specs.declared.session.SessionKeyId.{SessionKeyId}

@@ -1,6 +1,6 @@
 //! The context that the desk gives a device at home here: its address and its radio parameters.
 
-ghost use Rattle.std.specs.Prelude.{◌≡◌, ℕ, option_map};
+ghost use Rattle.std.specs.Prelude.{◌≡◌, ℕ, is_some, option_map};
 ghost use Rattle.std.specs.Option.{option_copied};
 ghost use Rattle.wire_ids.specs.declared.address.DevAddr as dev_addr;
 ghost use Rattle.entry_codec.specs.Machine.{lapse};
@@ -70,12 +70,15 @@ fn radio_by(used: &Option<UsedSeed>, device: &Device, radio: Radio) -> Radio
 // ---- the address
 
 // Whose pending context becomes active first, since its seed was used.
-#[tactic(auto, using(crate::proofs::Lapsing::uses_lapsed))]
+#[tactic(auto, using(crate::proofs::Lapsing::uses_lapsed, crate::proofs::Lapsing::none_wakes))]
 fn waking(step: &HomeStep<'_>) -> Option<Holder>
+    requires { step.now.has_pending ≡ is_some step.now.kept.now.slots.pending }
     ensures { (at : ℕ) → result ≡ waking step.now.step.used (home_found at step.now) }
 {
     match step.step.used {
-        Some(used) if step.kept.uses_pending(used) => Some(Holder::Device(step.number)),
+        Some(used) if step.has_pending && step.kept.uses_pending(used) => Some(Holder::Device(
+            step.number,
+        )),
         _ => None,
     }
 }
@@ -83,6 +86,7 @@ fn waking(step: &HomeStep<'_>) -> Option<Holder>
 // The least free address of the desk's network.
 #[tactic(auto, unfolding(crate::specs::Own::own_address))]
 fn own_address(tables: &Tables, state: &State, step: &HomeStep<'_>, now: Moment) -> Option<DevAddr>
+    requires { step.now.has_pending ≡ is_some step.now.kept.now.slots.pending }
     ensures { option_map (λ (a : dev_addr.DevAddr). a.0) result
         ≡ own_address tables.now (lapse now.0 state.now.now) step.now.step.used
         (home_found now.0 step.now) }
@@ -98,6 +102,7 @@ pub(crate) fn own_context(
     step: &HomeStep<'_>,
     now: Moment,
 ) -> Option<OwnContext>
+    requires { step.now.has_pending ≡ is_some step.now.kept.now.slots.pending }
     ensures { result ≡ own_context tables.now (lapse now.0 state.now.now) step.now.step.used
         (home_found now.0 step.now) }
 {

@@ -132,11 +132,11 @@ pub(crate) fn data_decision<'a, E: BlockFn, D: BlockFn>(
     let Some(speaker) = speaker(tables, state, up.addr, now) else {
         return refusal_decision(head, Refusal::Address);
     };
+    // It reads what lies apart from the rest of the context, beside what the next line reads.
+    let down = down_of(speaker.context, up, request.data_rate);
     if is_duplicate(request.phy_payload.as_slice(), &speaker) {
         return duplicate_decision(head, &speaker);
     }
-    // It reads what lies apart from the rest of the context, while the keys aren't there yet.
-    let down = down_of(speaker.context, up, request.data_rate);
     match valid_of(vault, up, request.data_rate, &speaker) {
         Some(valid) => counted_with(alloc, head, request, up, &speaker, &valid, down),
         None => refusal_decision(head, Refusal::Mic),

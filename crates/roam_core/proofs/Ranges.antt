@@ -1,5 +1,5 @@
 -- Of a request that is read, that its numbers are in their ranges.
-use Rattle.std.proofs.Common.{◌≡◌, ℕ, ◌<◌, ◌^◌, Bool, true, false, cond, List, length, Option, Some, None, option_and_then, is_some, Result, Ok, Err, refl, ap, subst, ltb-true}
+use Rattle.std.proofs.Common.{◌≡◌, ℕ, ◌<◌, ◌^◌, Bool, true, false, cond, List, length, Option, Some, None, option_and_then, Result, Ok, Err, refl, ap, subst, ltb-true}
 use Rattle.std.specs.Prelude.{nat_lt, unwrap_or}
 use Rattle.serde_json.specs.Data.{Data, Members, object}
 use Rattle.serde_json.specs.Find.{as_bool, as_number, as_object, as_u64}

@@ -5,7 +5,7 @@ use Rattle.json.specs.Json as json
 use Rattle.json.specs.Lex.{tokens}
 use Rattle.json.specs.Token.{Token}
 use Rattle.json.specs.Find as find
-use Rattle.serde_json.specs.Data.{Num, Data, number, array, object, Items, item, Members, no_members, member, put}
+use Rattle.serde_json.specs.Data.{Num, Data, number, array, object, Items, item, Members, no_members, put}
 use Rattle.serde_json.specs.Find.{get, get_member, as_number, as_str, as_bool}
 use Rattle.serde_json.specs.Read.{max_depth, number_of, of_json, of_items, of_members, read}
 use Rattle.serde_json.proofs.Views.{get_member-put, get_member-put_other}

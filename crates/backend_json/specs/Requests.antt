@@ -1,5 +1,5 @@
 -- The messages that are read, their members in the order in which they are looked at (TS002, Messages and Payloads).
-use Rattle.std.specs.Prelude.{◌^◌, ℕ, List, Bool, false, Option, Some, None, is_some, unwrap_or, if◌then◌else◌, Result, Ok}
+use Rattle.std.specs.Prelude.{◌^◌, ℕ, List, false, Option, Some, None, is_some, unwrap_or, if◌then◌else◌, Result, Ok}
 use Rattle.serde_json.specs.Data.{Data}
 use Rattle.serde_json.specs.Find.{as_bool, as_str}
 use Rattle.wire_ids.specs.declared.radio.Radio.{Radio}

@@ -1,8 +1,8 @@
 -- Where so many records end.
-use Rattle.std.proofs.Common.{◌≡◌, ℕ, List, ◌++◌, length, Option, Some, None, refl, sym, ◌∙◌, ap, subst, arith, length-append}
+use Rattle.std.proofs.Common.{◌≡◌, ℕ, List, ◌++◌, Option, Some, None, refl, sym, ◌∙◌, subst, arith, length-append}
 use Rattle.std.specs.Option.{option_map}
 use Rattle.disk_model.specs.Disk.{WhereTold}
-use Rattle.disk_journal.specs.Journal.{IsMarked, place}
+use Rattle.disk_journal.specs.Journal.{IsMarked}
 use Rattle.disk_journal.proofs.Put.{place_more}
 
 pub marked_same : {A : Type 0} (old new : Option A) (P : A → Type 0) → new ≡ old → WhereTold old P → WhereTold new P

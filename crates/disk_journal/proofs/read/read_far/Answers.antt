@@ -1,6 +1,6 @@
-use Rattle.std.proofs.Common.{◌≡◌, ◌+◌, ◌-◌, ◌<◌, ◌≤◌, ◌^◌, ℕ, length, drop, take, Some, sym, ◌∙◌, ap, subst, arith, length-drop}
+use Rattle.std.proofs.Common.{◌≡◌, ◌+◌, ◌-◌, ◌<◌, ◌^◌, ℕ, length, drop, take, Some, sym, ◌∙◌, ap, subst, arith, length-drop}
 use Rattle.disk_journal.specs.Format.{kept}
-use Rattle.disk_journal.specs.Journal.{IsMarked, place}
+use Rattle.disk_journal.specs.Journal.{place}
 use Rattle.disk_journal.specs.Behinds.{HasWhole}
 use Rattle.disk_journal.proofs.Places.{record_at}
 use Rattle.disk_journal.proofs.read.read_far.Goals as goal
